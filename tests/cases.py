@@ -11,24 +11,30 @@ from oracle.simulation import World
 
 WORDS = ["tree", "state", "action", "station", "operator", "devclass", "move", "unitclass", "accept", "any", "all",
          "domain", "device"]
-ODD_WORDS = ["-", "0", "1", "65535", "65536", "0000000017", "00000000017", "+1", "-1", "A", "A" * 16, "A" * 17, "a", "1A", "_A",
-             "A_", "A-B", "\xc4", "#", "#A", "A#", "\x0b", "\0", "\r", "127.0.0.1:9001", "255.255.255.255:65535",
-             "256.1.1.1:1", "1.1.1.1:0", "1.1.1:1", "1.1.1.1.1:1", "1.1.1.1", "::", "1.1.1.1:65536", "001.1.1.1:00001",
-             "4294967296", "9999999999", "18446744073709551616"]
+ODD_WORDS = ["-", "--", "A", "A" * 16, "A" * 17, "a", "1A", "_A", "A_", "A-B", "\xc4", "#", "#A", "A#", "\x0b", "\0",
+             "\r"]
+ODD_NUMBERS = ["0", "1", "65535", "65536", "0000000017", "00000000017", "+1", "-1", "1_0", "\xb2", "4294967296",
+               "9999999999", "10000000000", "18446744073709551616", "0x11", "17.", "1e1"]
+ODD_ADDRESSES = ["127.0.0.1:9001", "255.255.255.255:65535", "0.0.0.0:1", "256.1.1.1:1", "1.1.1.1:0", "1.1.1:1",
+                 "1.1.1.1.1:1", "1.1.1.1", "::", "1.1.1.1:65536", "001.1.1.1:00001", "1.1.1.00000000001:1",
+                 "1.1.1.+1:1", ".1.1.1:1", "1.1.1.1:", "1.1.1.1:1:1", "1.1.1.4294967297:1", "1.1.1.1:00000000001",
+                 "a.1.1.1:1"]
 SEPARATORS = [" ", "  ", "\t", " \t ", "\x0b", "\xa0"]
 # Lines of which a file has many: more of one of them than a limit allows.
-MANY = {"state M%d": 66, "action M%d": 66, "station M%d 1.2.3.4:5": 130, "operator M%d {station}": 34, "devclass M%d {state}": 34,
-        "unitclass M%d {state}": 34, "domain M%d {station} {unitclass} -": 130, "domain M%d {station} {unitclass} {domain}": 18,
-        "device M%d {domain} {devclass}": 18, "any {unitclass} {state} {state}": 34, "all {unitclass} {state} {state}": 34,
-        "accept {unitclass} {action}": 2, "move {devclass} {state} {action} {state}": 2}
+MANY = {"state M%d": 66, "action M%d": 66, "station M%d 1.2.3.4:5": 130, "operator M%d {station}": 34,
+        "devclass M%d {state}": 34, "unitclass M%d {state}": 34, "domain M%d {station} {unitclass} -": 130,
+        "domain M%d {station} {unitclass} {domain}": 18, "device M%d {domain} {devclass}": 18,
+        "any {unitclass} {state} {state}": 34, "all {unitclass} {state} {state}": 34, "accept {unitclass} {action}": 2,
+        "move {devclass} {state} {action} {state}": 2}
 
 # Numbers at the ends of ranges, and beside them.
 ENDS = (0, 1, 2, 3, 8, 9, 17, 32, 33, 64, 65, 127, 128, 129, 255, 256, 640, 641, 65_535, 999_999, 1_000_000, 1_000_001,
         3_999_999_999, 4_000_000_000, 4_000_000_001, 2 ** 32 - 1, 2 ** 62 - 1, 2 ** 62, 2 ** 62 + 1, 2 ** 64 - 1)
 
 # Words that a line of a schedule may have in a wrong place.
-SCHEDULE_WORDS = ["deliver", "recent", "tick", "restart", "report", "stop", "fail", "order", "before", "after", "device", "during",
-                  "take", "drop", "ask", "do", "include", "exclude", "manual", "ignore", "watch", "unwatch"]
+SCHEDULE_WORDS = ["deliver", "recent", "tick", "restart", "report", "stop", "fail", "order", "before", "after",
+                  "device", "during", "take", "drop", "ask", "do", "include", "exclude", "manual", "ignore", "watch",
+                  "unwatch"]
 COMMANDS = ["do", "do", "do", "include", "include", "include", "exclude", "manual", "ignore"]
 
 # Where the fields of a link and of the other parts of rows are, and how many bytes they have.
@@ -90,8 +96,8 @@ class DrawnTree:
         accepted = [(name, action) for name in self.names["unitclass"] for action in self.names["action"]]
         self.lines += ["accept %s %s" % it for it in accepted if self.draw.random() < 0.85]
         for name in self.names["unitclass"]:
-            self.lines += ["%s %s %s %s" % (self.draw.choice(["any", "all"]), name, self.one("state"), self.one("state"))
-                           for _ in range(self.draw.randrange(6))]
+            kinds = self.draw.choices(["any", "all"], k=self.draw.randrange(6))
+            self.lines += ["%s %s %s %s" % (it, name, self.one("state"), self.one("state")) for it in kinds]
 
     def text(self):
         return "\n".join(self.lines) + "\n"
@@ -126,7 +132,8 @@ def change_lines(draw, lines, tree):
         lines[at], lines[other] = lines[other], lines[at]
     elif way in (3, 4):
         words = lines[at].split(" ")
-        words[draw.randrange(len(words))] = odd_word(draw, tree)
+        place = draw.randrange(len(words))
+        words[place] = odd_word(draw, tree) if way == 3 else odd_like(draw, tree, words[place])
         lines[at] = " ".join(words)
     elif way == 5:
         words = lines[at].split(" ")
@@ -161,6 +168,21 @@ def odd_word(draw, tree):
     """Returns a word that may be wrong where it is put: one of a line, of the tree, or an odd one."""
     known = [name for names in tree.names.values() for name in names]
     return draw.choice([draw.choice(ODD_WORDS), draw.choice(WORDS), draw.choice(known), draw.choice(known), "-"])
+
+
+def odd_like(draw, tree, word):
+    """Returns a word that may be wrong in the place of one: of its kind, or a little of it changed."""
+    classes = tree.names["devclass"] + tree.names["unitclass"]
+    if word in classes and draw.random() < 0.7:
+        return draw.choice(classes)
+    if word.isdigit():
+        return draw.choice(ODD_NUMBERS)
+    if "." in word:
+        return draw.choice(ODD_ADDRESSES)
+    at = draw.randrange(len(word) + 1)
+    return draw.choice([word.lower(), word.upper(), word + "_", "_" + word, word + "X" * max(0, 16 - len(word)),
+                        word + "X" * max(0, 17 - len(word)), word[:at] + draw.choice("-.#a1\x0b\0\xc4") + word[at:],
+                        word[:at], draw.choice(ODD_WORDS)])
 
 
 def changed_bytes(draw, data):
@@ -235,8 +257,11 @@ class Play:
         self.draw, self.tree, self.world = draw, tree, World(tree)
         # how many of the datagrams were delivered in order, and how often it is done so
         self.delivered, self.patience = 0, draw.choice([0.3, 0.7, 0.9])
-        self.stations, self.operators, self.domains = ([it.name for it in of[1:]] for of in (tree.stations, tree.operators,
-                                                                                         tree.domains))
+        # the share of orders that take any domain
+        self.takes = draw.choice([0.02] * 8 + [0.7])
+        self.stations = [it.name for it in tree.stations[1:]]
+        self.operators = [it.name for it in tree.operators[1:]]
+        self.domains = [it.name for it in tree.domains[1:]]
         self.objects = [tree.object_name(it) for it in range(1, tree.objects() + 1)]
 
     def line(self):
@@ -253,7 +278,9 @@ class Play:
 
     def station_of(self, line):
         """Returns the name of the station at which a line is made, or None."""
-        at, _ = self.world.step_of(schedule.read_line(self.tree, line.encode())[0]) if "restart" not in line else (0, None)
+        if line.startswith("restart"):
+            return None
+        at, _ = self.world.step_of(schedule.read_line(self.tree, line.encode())[0])
         return self.tree.stations[at].name if at else None
 
     def any_line(self):
@@ -268,7 +295,8 @@ class Play:
         if way < 14:
             return "tick " + self.draw.choice(self.stations)
         if way < 17 and self.tree.count("device"):
-            return "report %s %s" % (self.draw.choice(self.tree.devices[1:]).name, self.draw.choice(self.tree.states[1:]))
+            device, state = self.draw.choice(self.tree.devices[1:]), self.draw.choice(self.tree.states[1:])
+            return "report %s %s" % (device.name, state)
         if way == 17 and self.draw.random() < 0.6:
             stopped = [it.number for it in self.world.stations.values() if it.is_stopped]
             number = self.draw.choice(stopped or range(1, len(self.stations) + 1))
@@ -287,12 +315,15 @@ class Play:
             return start + "%s %s" % (word, self.draw.choice(self.objects))
         if way < 0.17:
             return start + "ask " + self.draw.choice(self.domains)
+        if self.draw.random() < self.takes:
+            return start + "take " + self.draw.choice(self.domains)
         if way < 0.2 or not held and way < 0.9:
             roots = [it for it, domain in enumerate(self.tree.domains[1:], 1)
                      if domain.parent == 0 or self.draw.random() < 0.15]
             free = [it for it in roots if it not in links or self.draw.random() < 0.1]
             return start + "take " + self.domains[self.draw.choice(free or roots) - 1]
-        domain = self.draw.choice(held) if held and self.draw.random() < 0.9 else self.draw.randrange(1, len(self.domains) + 1)
+        any_domain = range(1, len(self.domains) + 1)
+        domain = self.draw.choice(held if held and self.draw.random() < 0.9 else any_domain)
         if way < 0.24:
             return start + "drop " + self.domains[domain - 1]
         word = self.draw.choice(COMMANDS)
@@ -300,11 +331,13 @@ class Play:
         return start + "%s %s %s" % (word, self.domains[domain - 1], argument)
 
     def target(self, domain):
-        """Draws a target of a command at a domain: mostly a child, or what is below it."""
-        below = [it for it in range(1, len(self.domains) + 1) if self.tree.way(domain, it)]
-        children = self.tree.children(domain)
-        found = self.draw.choice([below, children, children, range(1, len(self.domains) + 1)])
-        return self.domains[self.draw.choice(found or range(1, len(self.domains) + 1)) - 1]
+        """Draws a target of a command at a domain: mostly a child, one that is held, or what is below it."""
+        every, children = range(1, len(self.domains) + 1), self.tree.children(domain)
+        links = self.world.stations[self.tree.keeper(domain)].row(domain).links
+        held = [it for it, link in links.items() if link.is_held()]
+        below = [it for it in every if self.tree.way(domain, it)]
+        found = self.draw.choice([below, children, children, held, held, every])
+        return self.domains[self.draw.choice(found or children or every) - 1]
 
 
 def drawn_schedule(draw, tree):
@@ -324,7 +357,8 @@ def mutated_line(draw, play, line):
     known = [*play.objects, *play.stations, *play.operators, *play.tree.states[1:], *play.tree.actions[1:]]
     for _ in range(draw.choice([1, 1, 2])):
         way, at = draw.randrange(4), draw.randrange(len(words) + 1)
-        word = draw.choice([draw.choice(ODD_WORDS), draw.choice(SCHEDULE_WORDS), draw.choice(SCHEDULE_WORDS), draw.choice(known)])
+        word = draw.choice([draw.choice(ODD_WORDS + ODD_NUMBERS), draw.choice(known), draw.choice(SCHEDULE_WORDS),
+                            draw.choice(SCHEDULE_WORDS)])
         if way == 0:
             words[at:at + 1] = [word]
         elif way == 1:
@@ -332,8 +366,9 @@ def mutated_line(draw, play, line):
         elif way == 2:
             del words[at:at + 1]
         else:
-            words = [*draw.choice([["stop"], ["stop", draw.choice(play.stations)], ["fail", draw.choice(known), "after"],
-                                   ["stop", draw.choice(known), "before"], ["#"], []]), *words]
+            station, other = draw.choice(play.stations), draw.choice(known)
+            words = [*draw.choice([["stop"], ["stop", station], ["fail", other, "after"], ["stop", other, "before"],
+                                   ["fail", station, "device"], ["#"], []]), *words]
     line = draw.choice([" ", " ", " ", "\t", "  "]).join(words)
     return line + draw.choice(["", "", "", " ", "\x0b", " " * max(0, draw.choice([200, 201]) - len(line))])
 

@@ -194,7 +194,8 @@ def compare_stores(comparison, count, seed, folder):
 def compare_store(comparison, name, true, before, station):
     """Compares what is listed of a store, how a node starts on it, and the rows then."""
     with tempfile.TemporaryDirectory() as folder:
-        store = stores.store(os.path.join(folder, "store"), stores.TABLE, [(key, it.hex()) for key, it in before.items()])
+        store = stores.store(os.path.join(folder, "store"), stores.TABLE,
+                             [(key, data.hex()) for key, data in before.items()])
         listed = comparison.run("rows", store)
         begun = comparison.run("node", true.path, true.tree.stations[station].name, store, "--turns", "1")
         after = {key: bytes.fromhex(text) for key, text in stores.rows_in(store)}

@@ -20,7 +20,8 @@ from schedules_test import OPENING, TREE, as_said, read_plays
 TOOL = os.path.join(running.HERE, "differences.py")
 SEED = "gate"
 # How many cases of each kind are compared, and at least how many of them end in another way than well.
-PART = {"trees": (80, 40), "schedules": (50, 5), "drawn": (12, 0), "answers": (80, 40), "datagrams": (4000, 0), "stores": (12, 3)}
+PART = {"trees": (80, 40), "schedules": (50, 5), "drawn": (12, 0), "answers": (80, 40), "datagrams": (4000, 0),
+        "stores": (12, 3)}
 
 
 def compared(program, folder, kind, count):
@@ -107,8 +108,9 @@ def test_tool_without_cases(program, folder):
 
 # Of the oracle alone.
 
-@pytest.mark.parametrize("data, wanted", [pytest.param(data, (out.encode(), err.encode() if status else b"", status), id=name)
-                                          for name, data, out, err, status in trees.all_trees()])
+@pytest.mark.parametrize("data, wanted", [
+    pytest.param(data, (out.encode(), err.encode() if status else b"", status), id=name)
+    for name, data, out, err, status in trees.all_trees()])
 def test_tree(data, wanted):
     assert tree_files.check(data) == wanted
 

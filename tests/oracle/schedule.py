@@ -9,8 +9,9 @@ from .text import Fault
 # Which words come after the first one, and after the word of an order.
 ITEMS = {b"deliver": ["from 1"], b"recent": ["number"], b"tick": ["station"], b"restart": ["station"],
          b"report": ["device", "state"]}
-ORDERS = {b"take": ["domain"], b"drop": ["domain"], b"ask": ["domain"], b"do": ["domain", "action"], b"watch": ["object"],
-          b"unwatch": ["object"], **{it: ["domain", "domain"] for it in (b"include", b"exclude", b"manual", b"ignore")}}
+ORDERS = {b"take": ["domain"], b"drop": ["domain"], b"ask": ["domain"], b"do": ["domain", "action"],
+          b"watch": ["object"], b"unwatch": ["object"],
+          **{it: ["domain", "domain"] for it in (b"include", b"exclude", b"manual", b"ignore")}}
 HOWS = {b"stop": (b"before", b"after"), b"fail": (b"device", b"before", b"after")}
 # What a stop or a failed save may not be about.
 NOT_INSIDE = (b"restart", *HOWS)

@@ -147,8 +147,9 @@ class World:
         if kind in ("learned", "letgo"):
             return "%s %s %s %d" % (kind, self.holder(parts[0]), self.domain(parts[1]), parts[2])
         if kind == "ordered":
-            return "ordered %s %s %d %d %s" % (self.tree.operators[parts[0]].name, self.domain(parts[1]), *parts[2:4],
-                                               self.command(parts[4]))
+            operator, domain, epoch, number, command = parts
+            return "ordered %s %s %d %d %s" % (self.tree.operators[operator].name, self.domain(domain), epoch, number,
+                                               self.command(command))
         text = {"granted": self.holder, "ran": self.command}.get(kind, str)
         return " ".join([kind, self.domain(parts[0]), *map(str, parts[1:-1]), text(parts[-1])])
 
@@ -161,7 +162,8 @@ class World:
 
     def sent_line(self, number, datagram):
         stations = (self.tree.stations[it].name for it in (datagram.sender, datagram.receiver))
-        return "sent %d %s %s %s %s" % (number, KINDS[datagram.kind], *stations, self.tree.object_name(datagram.subject))
+        name = self.tree.object_name(datagram.subject)
+        return "sent %d %s %s %s %s" % (number, KINDS[datagram.kind], *stations, name)
 
 
 def kept(station):

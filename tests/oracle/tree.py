@@ -1,5 +1,6 @@
 """Tree files: what one says, the first fault of one that is refused, and what `smi check` prints."""
 
+import collections
 import dataclasses
 import re
 
@@ -85,8 +86,11 @@ class Tree:
 
     def __init__(self):
         self.number = 0
-        self.states, self.actions, self.stations, self.operators, self.domains, self.devices = ([None] for _ in range(6))
+        self.states, self.actions, self.stations = [None], [None], [None]
+        self.operators, self.domains, self.devices = [None], [None], [None]
         self.classes = {}
+        # the children of each domain, and the places of its devices among all devices
+        self.child_lists, self.device_lists = collections.defaultdict(list), collections.defaultdict(list)
         # the number of each name, by the set of names
         self.numbers = {kind: {} for kind in MOST}
 
@@ -115,11 +119,11 @@ class Tree:
         return (self.device(thing) or self.domains[thing]).name
 
     def children(self, domain):
-        return [it for it in range(1, len(self.domains)) if self.domains[it].parent == domain]
+        return self.child_lists[domain]
 
     def devices_of(self, domain):
         """Returns the objects that are devices of a domain, by number."""
-        return [it for it in range(len(self.domains), self.objects() + 1) if self.device(it).domain == domain]
+        return [self.count("domain") + it for it in self.device_lists[domain]]
 
     def way(self, domain, target):
         """Returns the child of a domain that a target is or is below, or None if the target is not below the domain."""
@@ -224,7 +228,7 @@ class Reader:
             is_full = level > MOST_LEVELS or (parent and len(tree.children(parent)) == MOST_CHILDREN)
         elif kind == "device":
             made = Device(name, self.number("domain", words[1]), found)
-            is_full = len([it for it in tree.devices[1:] if it.domain == made.domain]) == MOST_DEVICES_OF_DOMAIN
+            is_full = len(tree.device_lists[made.domain]) == MOST_DEVICES_OF_DOMAIN
         if is_full or tree.count(of) == MOST[of]:
             return 6
         tree.numbers[of][words[0]] = tree.count(of) + 1
@@ -233,6 +237,10 @@ class Reader:
             tree.classes[words[0]] = DeviceClass(first) if kind == "devclass" else UnitClass(first)
         else:
             getattr(tree, of + "s").append(made or name)
+        if kind == "domain":
+            tree.child_lists[made.parent].append(tree.count(kind))
+        elif kind == "device":
+            tree.device_lists[made.domain].append(tree.count(kind))
         return 0
 
 
