@@ -375,12 +375,14 @@ def mutated_line(draw, play, line):
 
 def rows_of(world):
     """Returns the rows of all stations of a world, as a dictionary."""
-    found = {}
-    for number, station in world.stations.items():
-        found[number, 0, 0] = rows.boot_bytes(station.stable.boot)
-        found.update({(number, domain, 0): rows.domain_bytes(it) for domain, it in station.stable.domains.items()})
-        found.update({(number, 0, it): rows.operator_bytes(links) for it, links in station.stable.operators.items()})
-    return found
+    return {key: data for station in world.stations.values() for key, data in rows_of_station(station).items()}
+
+
+def rows_of_station(station):
+    number, stable = station.number, station.stable
+    return {(number, 0, 0): rows.boot_bytes(stable.boot),
+            **{(number, domain, 0): rows.domain_bytes(it) for domain, it in stable.domains.items()},
+            **{(number, 0, operator): rows.operator_bytes(it) for operator, it in stable.operators.items()}}
 
 
 def mutated_rows(draw, true):

@@ -1,6 +1,7 @@
 """Cases that are drawn, of which the program and the oracle (tests/oracle) have to say the same.
 
-usage: differences.py SMI [--trees N] [--schedules N] [--drawn N] [--answers N] [--datagrams N] [--stores N] [--seed S]
+usage: differences.py SMI [--trees N] [--schedules N] [--drawn N] [--answers N] [--datagrams N] [--stores N]
+                      [--forged N] [--seed S]
 
 trees      tree files with a few changes, through `smi check`
 schedules  schedules over drawn trees, through `smi sim`; some have a line that is refused
@@ -8,6 +9,7 @@ drawn      seeds over drawn trees, through `smi sim --seed --steps`
 answers    a few datagrams with wrong bytes, or cut off, through `smi answer`
 datagrams  datagrams in files of 100,000, through `smi answer`
 stores     stores whose rows were changed: what `smi rows` lists of them, how a node starts on them, and the rows then
+forged     files of 401 datagrams that may fit what a node knows: its answers to the other stations, and its rows
 
 The seed is printed, and for each kind how many cases are alike, how many differ and how they end. Each difference is
 kept in a folder, with its input, what came and what was wanted. The last line is 'N passed, M failed'.
@@ -24,6 +26,7 @@ import time
 # it puts tools on the path, so it comes first
 import running
 import cases
+import forgeries
 import nodes
 import stores
 from consoles import Console, wait_for
@@ -32,6 +35,8 @@ from oracle import tree as trees
 
 # How many datagrams are in a file, and how many stores have rows of one play, of which one in some is of nodes.
 FILE, STORES_OF_PLAY, OF_NODES = 100_000, 20, 5
+# How many datagrams are sent to a node. The last is a question, whose answer comes after all others.
+FORGED = 401
 # How many items a seed draws, and how large trees are: the least has one to four domains, others as many times more.
 STEPS = (0, 1, 30, 300, 1000, 3000)
 SIZES, SMALL = (1, 2, 2, 4, 4, 30), (1, 2)
@@ -138,7 +143,8 @@ class TrueRows:
     """A tree of three stations, and the rows that a play of them has left."""
 
     def __init__(self, draw, folder):
-        self.data, self.tree, self.path = drawn_tree(draw, folder, SMALL, nodes.free_ports(3))
+        self.ports = nodes.free_ports(3)
+        self.data, self.tree, self.path = drawn_tree(draw, folder, SMALL, self.ports)
         play = cases.Play(draw, self.tree)
         for _ in range(draw.choice([30, 100, 200])):
             play.line()
@@ -204,8 +210,20 @@ def compare_store(comparison, name, true, before, station):
                        ((text, b"", 0), *rows.begun(true.tree, station, before)))
 
 
+def compare_forged(comparison, count, seed, folder):
+    """Compares what nodes make of datagrams that are forged."""
+    for number in range(count):
+        draw = draw_for(seed, "forged", number)
+        true = TrueRows(draw, folder)
+        while not forgeries.is_usable(true.tree):
+            true = TrueRows(draw, folder)
+        sent, came, wanted = forgeries.played(comparison.program, true, draw, FORGED)
+        comparison.compare("forged-%d" % number, {"tree": true.data, "rows": rows.listed(true.rows),
+                                                  "datagrams": "".join(it.hex() + "\n" for it in sent)}, came, wanted)
+
+
 KINDS = {"trees": compare_trees, "schedules": compare_schedules, "drawn": compare_drawn, "answers": compare_answers,
-         "datagrams": compare_datagrams, "stores": compare_stores}
+         "datagrams": compare_datagrams, "stores": compare_stores, "forged": compare_forged}
 
 
 def main():

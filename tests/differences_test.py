@@ -13,7 +13,7 @@ import layout
 import running
 import trees
 from command_lines_test import TABLE
-from oracle import answers, grants, rows, schedule, simulation, station, text
+from oracle import answers, grants, refusals, rows, schedule, simulation, station, text
 from oracle import tree as tree_files
 from schedules_test import OPENING, TREE, as_said, read_plays
 
@@ -21,7 +21,7 @@ TOOL = os.path.join(running.HERE, "differences.py")
 SEED = "gate"
 # How many cases of each kind are compared, and at least how many of them end in another way than well.
 PART = {"trees": (80, 40), "schedules": (50, 5), "drawn": (12, 0), "answers": (80, 40), "datagrams": (4000, 0),
-        "stores": (12, 3)}
+        "stores": (12, 3), "forged": (3, 0)}
 
 
 def compared(program, folder, kind, count):
@@ -73,7 +73,9 @@ BUGS = {
     "no fault of unknown names": (schedule, "number_of", lambda *_: 1, "schedules", 20),
     "another generator": (schedule, "SEEDING", schedule.SEEDING + 2, "drawn", 12),
     "rows of an earlier schema": (rows, "DOMAIN_SCHEMA", 1, "stores", 3),
-    "no fault of what the tree lacks": (rows, "is_holder", lambda *_: False, "stores", 8)}
+    "no fault of what the tree lacks": (rows, "is_holder", lambda *_: False, "stores", 8),
+    "a holder that nobody has": (refusals, "has_a_say", lambda *_: False, "forged", 1),
+    "watchers that are not taken": (station, "MOST_WATCHERS", 0, "forged", 1)}
 
 
 @pytest.mark.parametrize("name", BUGS)

@@ -12,7 +12,7 @@ import sys
 import places
 from running import text_of
 
-SOURCES = ["crates/*/src/**/*.rt", "crates/*/specs/**/*.antt", "crates/*/proofs/**/*.antt", "tests/*.py", "tools/*.py"]
+SOURCES = ["crates/*/src/**/*.rt", "crates/*/specs/**/*.antt", "crates/*/proofs/**/*.antt", "tests/**/*.py", "tools/*.py"]
 DOCUMENTS = ["README.md", "CONTRIBUTING.md", "CHANGELOG.md", "SECURITY.md", "docs/*.md"]
 # What begins the text of a comment, by the kind of file.
 COMMENTS = {".rt": re.compile(r"\s*//[/!]?(.*)"), ".antt": re.compile(r"\s*--(.*)"), ".py": re.compile(r"\s*#(.*)")}

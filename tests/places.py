@@ -17,7 +17,7 @@ OF_TESTS = re.compile(r"^crates/\w+_tests/|/src/tests(\.rt|/)")
 LISTS = "docs/CHANGING.md"
 # What is searched for a pattern, by the first word of its row.
 SEARCHED = {
-    "sources": ["crates/*/src/**/*.rt"], "tests": ["crates/*/src/**/*.rt", "tests/*.py", "tests/*.txt"],
+    "sources": ["crates/*/src/**/*.rt"], "tests": ["crates/*/src/**/*.rt", "tests/**/*.py", "tests/*.txt"],
     "definitions": ["crates/*/specs/**/*.antt"], "proofs": ["crates/*/proofs/**/*.antt"], "tools": ["tools/*.py"],
     "documents": ["*.md", "docs/*.md", "package/*", "examples/*"]}
 # The file of a proof that is not the lemmas of a subject.

@@ -31,10 +31,9 @@ class Item(typing.NamedTuple):
 
 
 def form_of(words, is_inside=False):
-    """Returns what each word of a line has to be: a word that is as it has to be has None.
+    """Returns what each word of a line has to be: None if it is right, UNKNOWN if it is none of the tables'.
 
-    A word that the form does not have, because there are too many, and one that is missing have UNKNOWN if it is not
-    known what is to happen, and nothing otherwise.
+    A word that is missing is no unknown word.
     """
     if not words or words[0] in (NOT_INSIDE if is_inside else ()):
         return [UNKNOWN]
@@ -44,10 +43,7 @@ def form_of(words, is_inside=False):
         after = ORDERS.get(words[2], []) if len(words) > 2 else []
         return [None, "operator", None if len(words) < 3 or words[2] in ORDERS else UNKNOWN, *after]
     if words[0] in HOWS:
-        if len(words) > 3:
-            inner = form_of(words[3:], True)
-        else:
-            inner = [None]
+        inner = form_of(words[3:], True) if len(words) > 3 else [None]
         return [None, "station", None if len(words) < 3 or words[2] in HOWS[words[0]] else UNKNOWN, *inner]
     return [UNKNOWN]
 

@@ -4,8 +4,8 @@ import copy
 import itertools
 
 from . import grants, schedule
-from .datagrams import KINDS, TELL, WATCH
-from .station import Order, Outcome, Station
+from .datagrams import KINDS
+from .station import Outcome, Station
 from .text import Fault
 
 DISK_REFUSED = 31
