@@ -25,14 +25,29 @@ from oracle.station import Station
 # What a tick never sends, and how many datagrams are sent before the answers are awaited.
 ANSWERS, AT_ONCE = (TELL, STATE, UNWATCH), 40
 HERE, OTHERS = 1, (2, 3)
-# How long answers may take, in seconds.
-LONGEST = 5
+# How long answers may take, in seconds, and the share of nodes whose rows are near their limits.
+LONGEST, NEAR_LIMITS = 5, 0.3
 
 
 def is_usable(tree):
     """Returns true if the first station keeps a domain, and no domain of it has a child there."""
     kept = [it for it in range(1, tree.count("domain") + 1) if tree.keeper(it) == HERE]
     return bool(kept) and not any(tree.keeper(child) == HERE for it in kept for child in tree.children(it))
+
+
+def near_limits(draw, tree, store):
+    """Returns rows of domains of which some have epochs and numbers at the ends of their ranges."""
+    found = dict(store)
+    for key, data in store.items():
+        if key[1] and draw.random() < 0.7:
+            row, last, epoch = rows.domain_row_of(tree, HERE, key[1], data), grants.LAST_NUMBER, grants.LAST_EPOCH
+            record = Record(epoch - draw.choice([0, 2]))
+            if row.record.holder != grants.FREE:
+                record = row.record._replace(epoch=epoch - 1, last=last - draw.choice([0, 1, 2]))
+            links = {child: link._replace(epoch=epoch - 1, number=last - draw.choice([0, 1]) if link.is_held() else 0)
+                     for child, link in row.links.items()}
+            found[key] = rows.domain_bytes(row._replace(record=record, links=links))
+    return found
 
 
 def drawn(draw, station):
@@ -157,6 +172,8 @@ def played(program, true, draw, count):
     What comes is the answers to each of the others, what the node told, and its rows.
     """
     store = {key: data for key, data in true.rows.items() if key[0] == HERE and key[2] == 0}
+    if draw.random() < NEAR_LIMITS:
+        store = near_limits(draw, true.tree, store)
     expected, sent = Expected(true.tree, store), []
     with tempfile.TemporaryDirectory() as folder:
         path, where = os.path.join(folder, "store"), os.path.join(folder, "console")
