@@ -408,6 +408,27 @@ def current_mask():
     return mask
 
 
+def timers(port, other):
+    """Returns which timer the system runs for each connection of a port of this machine with another one (proc(5))."""
+    rows = [line.split() for line in running.text_of("/proc/net/tcp").splitlines()[1:]]
+    return [row[5][:2] for row in rows if [int(it.split(":")[1], 16) for it in row[1:3]] == [port, other]]
+
+
+def test_keeps_alive(folder, start_node, subtests):
+    """The system asks after a client over TCP from which nothing comes: its machine may have lost its power."""
+    port = screens.tcp_port()
+    Place(folder, start_node, [os.path.join(folder, "socket"), "127.0.0.1:%d" % port])
+    tcp = Console("127.0.0.1:%d" % port)
+    with subtests.test("it is answered"):
+        assert tcp.ask("show L") == "board L none"
+    other = tcp.socket.getsockname()[1]
+    with subtests.test("a timer asks after it"):
+        assert running.at_last(lambda: timers(port, other), ["02"]) == ["02"]
+    with subtests.test("none asks after the node in its turn"):
+        assert running.at_last(lambda: timers(other, port), ["00"]) == ["00"]
+    tcp.close()
+
+
 def test_doors(folder, run_node, start_node, subtests):
     """Where a node listens: both kinds at once, a file that was left over, and what is in the way."""
     port = screens.tcp_port()

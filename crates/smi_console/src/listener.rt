@@ -1,11 +1,30 @@
 //! Listeners and connections, over TCP and Unix sockets.
 
+ghost use Rattle.libc.specs.Net.{SockOption};
+
+use libc::net;
 use mio::net::{TcpListener, TcpStream, UnixListener, UnixStream};
 use mio::{Interest, Registry, Token};
 use std::fs::{self, Files};
 use std::io::{self, ErrorKind, Read, Write};
 use std::net::{Net, SocketAddr};
+use std::os::fd::{AsRawFd, RawFd};
 use std::os::unix::fs::FileTypeExt;
+
+/// After how many seconds without a byte the system asks whether the other side of a TCP connection is still there, how
+/// many seconds lie between two such questions, and how many without an answer end the connection.
+const ASKED_AFTER: i32 = 30;
+
+const ASKED_EACH: i32 = 10;
+
+const MOST_UNANSWERED: i32 = 3;
+
+/// The options of TCP that say so, by their numbers in Linux.
+const TCP_KEEPIDLE: i32 = 4;
+
+const TCP_KEEPINTVL: i32 = 5;
+
+const TCP_KEEPCNT: i32 = 6;
 
 /// The address at which a node listens for consoles.
 #[derive(Drop)]
@@ -51,6 +70,24 @@ fn unix_listener<R: Files + Net>(rt: &R, path: &str) -> io::Result<UnixListener>
     UnixListener::bind(rt, path)
 }
 
+/// Sets an option of a socket. A system that does not take it goes on without it.
+fn set_option(socket: RawFd, level: i32, name: i32, value: i32)
+    requires { SockOption level name }
+{
+    let mut bytes = [0u8; 16];
+    bytes[..4].copy_from_slice(&value.to_ne_bytes());
+    let _ = unsafe { net::setsockopt(socket, level, name, &bytes, 4) };
+}
+
+/// Has the system end a connection whose other side is gone without a word, as a machine is that lost its power.
+fn keep_alive(stream: &TcpStream) {
+    let socket = stream.as_raw_fd();
+    set_option(socket, net::SOL_SOCKET, net::SO_KEEPALIVE, 1);
+    set_option(socket, net::IPPROTO_TCP, TCP_KEEPIDLE, ASKED_AFTER);
+    set_option(socket, net::IPPROTO_TCP, TCP_KEEPINTVL, ASKED_EACH);
+    set_option(socket, net::IPPROTO_TCP, TCP_KEEPCNT, MOST_UNANSWERED);
+}
+
 impl ListenSocket {
     /// Opens a listener at this place.
     pub(crate) fn open<R: Files + Net>(rt: &R, place: &ListenAddress) -> io::Result<ListenSocket> {
@@ -70,6 +107,7 @@ impl ListenSocket {
             ListenSocket::Tcp(listener) => {
                 let (stream, _) = listener.accept()?;
                 let _ = stream.set_nodelay(true);
+                keep_alive(&stream);
                 Ok(Stream::Tcp(stream))
             }
         }
