@@ -8,7 +8,7 @@ device that is in alarm. --brief prints the summary alone.
 
 An object is in alarm whose state has the PATTERN, a regular expression: ERROR, FAULT, ALARM or TRIP where none is
 named. With --style that holds for the states alone that the screen's style file says nothing of (docs/FORMATS.md, "The
-style of a screen"). A station is silent that was not heard for so many SECONDS, two if none are named.
+style of a screen"). A station is silent if it was not heard for SECONDS, which are two if none are given.
 
 The exit status is that of a monitor's plugin: 0 where all is well, 1 where a station is silent or was never heard, 2
 where something is in alarm, 3 where the screen does not answer, its answer can't be read, or the words are wrong.

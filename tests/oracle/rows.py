@@ -1,4 +1,4 @@
-"""Stable rows: how they are written and read, which are refused, and which a start writes anew.
+"""Stable rows: how they are written and read, which are refused, and which a start writes in a newer form.
 
 docs/FORMATS.md, "Stable rows", has their bytes. A store is a dictionary of bytes by keys: station, domain, operator.
 """
