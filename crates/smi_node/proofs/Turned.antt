@@ -8,7 +8,7 @@ use Rattle.smi_node.specs.Carried.{Edges, Node, fault_in, node}
 use Rattle.smi_node.specs.Linked.{LinkShows}
 use Rattle.smi_node.specs.Served.{Carrying, Coming, Came, Hears, IsDelivery, ReceivesOne, ServesAll, ServesSeat}
 use Rattle.smi_node.specs.Served.{ServesSeats, is_failed, operator_of_seat, with_link}
-use Rattle.smi_node.specs.Observed.{Stepped}
+use Rattle.smi_node.specs.Observed.{Seen}
 use Rattle.smi_node.specs.Turning.{HearsSo, TurnsSo}
 use Rattle.smi_node.specs.declared.node.CarryFault.{CarryFault}
 
@@ -55,11 +55,11 @@ pub broken_turn : {T : Type 0} (C : Carrying T) (operators : List ℕ) (a b c : 
     → TurnsSo C operators a c (Err f)
 broken_turn C operators a b c failed f heard served = (heard.0, inr (b, heard.2, served))
 
--- or is whole, and its observer, who is told that it is over, has still been told the same steps
+-- or is whole, and its observer, who is told that it is over, has still seen the same steps
 pub whole_turn : {T : Type 0} (C : Carrying T) (operators : List ℕ) (a b : Node T) (station : T) (e : Edges)
-    (t u : Option (List Stepped)) (failed : Bool)
+    (t u : Seen) (failed : Bool)
     → HearsSo C a b (Ok failed) → ServesAll C operators (seat_count b.edges.desk) b (node station e t) None → u ≡ t
     → TurnsSo C operators a (node station e u) (Ok failed)
 whole_turn C operators a b station e t u failed heard served same =
-    subst (λ (x : Option (List Stepped)). TurnsSo C operators a (node station e x) (Ok failed)) (sym same)
+    subst (λ (x : Seen). TurnsSo C operators a (node station e x) (Ok failed)) (sym same)
     (heard.0, heard.1, (b, heard.2, served))

@@ -1,4 +1,4 @@
--- What one event leaves of a node: of its station, its link, its desk and its board, and of what its observer was told.
+-- What one event leaves of a node: of its station, its link, its desk and its board, and of what its observer saw.
 use Rattle.std.specs.Prelude.{ℕ, ◌≡◌, Bool, true, false, List, Option, Some, None, Result, Ok, Err, OnOk}
 use Rattle.smi_rows.specs.Store.{Rows}
 use Rattle.smi_station_grants.specs.Save.{IfKept, IfMemory, IfStopped}
@@ -22,7 +22,7 @@ use Rattle.smi_view.specs.Shows.{BoardShows}
 use Rattle.smi_node.specs.declared.node.CarryFault.{CarryFault}
 use Rattle.smi_node.specs.declared.node.CarryFault.TheVariants.{Stopped, Memory}
 use Rattle.smi_node.specs.Linked.{LinkShows, Sends}
-use Rattle.smi_node.specs.Observed.{Stepped, stepped}
+use Rattle.smi_node.specs.Observed.{Seen, SeesOne, stepped}
 use Rattle.smi_node.specs.Shown.{Publishes, Refuses}
 use Rattle.smi_node.specs.Told.{EndsReplaced, MarksNewest, TellsAll, TellsNewest}
 
@@ -58,14 +58,14 @@ pub record Edges : Type 0 where
 abbrev pub edges : LinkShows → Desk → BoardShows → Edges
 edges link desk board = record { link = link; desk = desk; board = board }
 
--- a node: a station, its edges, and what its observer was told, if it tells that
+-- a node: a station, its edges, and what its observer saw
 pub record Node (T : Type 0) : Type 0 where
   pub station : T
   pub edges : Edges
-  pub told : Option (List Stepped)
+  pub seen : Seen
 
-abbrev pub node : {T : Type 0} → T → Edges → Option (List Stepped) → Node T
-node station edges told = record { station = station; edges = edges; told = told }
+abbrev pub node : {T : Type 0} → T → Edges → Seen → Node T
+node station edges seen = record { station = station; edges = edges; seen = seen }
 
 -- the event is a report
 abbrev pub is_report : Event → Bool
@@ -132,7 +132,7 @@ FollowsStep true operators seat code asker handed before after f = (f ≡ Some S
 FollowsStep false operators seat code asker handed before after f =
     Follows operators seat code asker handed before after f
 
--- An event is carried: it steps the station, the observer is told, and what follows the step is done.
+-- An event is carried: it steps the station, the observer sees that, and what follows the step is done.
 pub record Carries {T : Type 0} (StepsBy : T → Event → T → Out → Result Heard StepFault → Type 0)
     (operators : List ℕ) (e : Event) (seat : Option ℕ) (handed : Out) (before after : Node T) (f : Option CarryFault)
     : Type 0 where
@@ -141,4 +141,4 @@ pub record Carries {T : Type 0} (StepsBy : T → Event → T → Out → Result 
   pub follows : FollowsStep (is_stopped_by made) operators seat (code_of (is_report e) made) (asker_of e) handed
       before.edges
       after.edges f
-  pub told : Grows before.told after.told (stepped e made handed)
+  pub sees : SeesOne before.seen after.seen (stepped e made handed)

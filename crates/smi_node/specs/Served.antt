@@ -31,10 +31,10 @@ carrying StepsBy operators e seat before after f =
     (handed : Out) × Carries StepsBy operators e seat handed before after f
 
 abbrev pub with_link : {T : Type 0} → Node T → LinkShows → Node T
-with_link n link = node n.station (edges link n.edges.desk n.edges.board) n.told
+with_link n link = node n.station (edges link n.edges.desk n.edges.board) n.seen
 
 abbrev pub with_desk : {T : Type 0} → Node T → Desk → Node T
-with_desk n desk = node n.station (edges n.edges.link desk n.edges.board) n.told
+with_desk n desk = node n.station (edges n.edges.link desk n.edges.board) n.seen
 
 -- What comes over the link.
 

@@ -1,8 +1,7 @@
 //! The observer of a node, which is told of each step and of the end of each turn.
 
-ghost use Rattle.std.specs.Prelude.{◌≡◌, List, None, Option};
-ghost use Rattle.smi_link.specs.Link.{Grows};
-ghost use Rattle.smi_node.specs.Observed.{Stepped, stepped};
+ghost use Rattle.std.specs.Prelude.{◌≡◌};
+ghost use Rattle.smi_node.specs.Observed.{Seen, SeesOne, nothing_seen, stepped};
 
 use smi_protocol::{Event, Heard, StepFault};
 use smi_rows::Stable;
@@ -14,9 +13,10 @@ use smi_station_output::Out;
 /// What a step handed out is the list of its effects: the state that it showed and those that it passed through, the
 /// orders that it answered, and the entries of its save. An observer reads them and has no say in what follows.
 ///
-/// Contracts see the list of steps that an observer was *told*. One that does not tell them has none.
+/// Contracts see the list of steps that an observer was *told*, and that of what these handed out, as far as it *noted*
+/// them. One that does not tell has neither.
 pub trait StepObserver {
-    ghost told: { Self → Option (List Stepped) };
+    ghost seen: { Self → Seen };
 
     /// Is told the event of a step, what the step answered, and what it handed out.
     ///
@@ -29,11 +29,11 @@ pub trait StepObserver {
         made: &Result<Heard, StepFault>,
         out: &Out,
     )
-        ensures { Grows (told self.old) (told self.new) (stepped event.now made.now out.now) };
+        ensures { SeesOne (seen self.old) (seen self.new) (stepped event.now made.now out.now) };
 
     /// Is told that a turn is over: what it brought about is on the board and in the seats.
     fn on_turn(&mut self)
-        ensures { told self.new ≡ told self.old };
+        ensures { seen self.new ≡ seen self.old };
 }
 
 /// Ignores every step.
@@ -41,7 +41,7 @@ pub trait StepObserver {
 pub struct NoObserver;
 
 impl StepObserver for NoObserver {
-    ghost told = { λ _. None };
+    ghost seen = { λ _. nothing_seen };
 
     fn on_step<S: Stable>(
         &mut self,

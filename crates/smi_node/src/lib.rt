@@ -15,7 +15,8 @@
 //! What they leave is a relation between the node before and after (`specs/Carried.antt` for one event,
 //! `specs/Served.antt` for turns), made of the relations that the layers below have: the station's own step, the link
 //! that sends, the desk that answers, the board that publishes. So a turn asks the link once and each seat once, and
-//! the observer is told of each step once: each of these is seen in what the link, the desk and the observer show.
+//! the observer is told of each step once: each of these is seen in what the link, the desk and the observer show. And
+//! one that notes what steps hand out has noted that of each, in order.
 //!
 //! # How it is proved
 //!

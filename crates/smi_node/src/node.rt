@@ -1,11 +1,12 @@
 //! A node, and one event at it.
 
-ghost use Rattle.std.specs.Prelude.{◌≡◌, None};
+ghost use Rattle.std.specs.Prelude.{◌≡◌};
 ghost use Rattle.smi_station.specs.Core.{is_stopped_by};
 ghost use Rattle.smi_station.specs.Readers.{operators_in};
 ghost use Rattle.smi_node.specs.Carried.{Carries, Follows, SendsStep, StepsTo, Tells, asker_of, code_of, edges};
 ghost use Rattle.smi_node.specs.Carried.{fault_in, is_report, node};
 ghost use Rattle.smi_node.specs.Linked.{LinkShows, Sends, shown_by};
+ghost use Rattle.smi_node.specs.Observed.{nothing_seen};
 
 use crate::answers::{end_replaced, mark_newest, tell_all, tell_newest};
 use crate::event::{NoObserver, StepObserver};
@@ -218,9 +219,9 @@ impl<S: Stable, J: BoardId> Node<'_, '_, '_, '_, S, J> {
         ensures carries { Carries (StepsTo S.is_honest S.is_open S.rows S.may_find S.saves S.failures S.doubts)
             self.old.operators.now input.entry.event input.entry.seat self.new.out.now
             (node self.old.station.now (edges (shown_by L.received L.handed L.failures L.receives link.old)
-            self.old.desk.now self.old.board.now) (V.told observer.old))
+            self.old.desk.now self.old.board.now) (V.seen observer.old))
             (node self.new.station.now (edges (shown_by L.received L.handed L.failures L.receives link.new)
-            self.new.desk.now self.new.board.now) (V.told observer.new)) (fault_in result) }
+            self.new.desk.now self.new.board.now) (V.seen observer.new)) (fault_in result) }
         ensures station { self.new.station.ghost_name ≡ self.old.station.ghost_name }
         ensures desk { self.new.desk.ghost_name ≡ self.old.desk.ghost_name }
         ensures board { self.new.board.ghost_name ≡ self.old.board.ghost_name }
@@ -282,9 +283,9 @@ pub fn carry<S: Stable, L: DatagramLink, J: BoardId, R: Wait>(
     ensures carries { Carries (StepsTo S.is_honest S.is_open S.rows S.may_find S.saves S.failures S.doubts)
         (operators_in station.old.core) event.entry seat out.new
         (node station.old (edges (shown_by L.received L.handed L.failures L.receives link.old) desk.old
-        board.old.board.now) None)
+        board.old.board.now) nothing_seen)
         (node station.new (edges (shown_by L.received L.handed L.failures L.receives link.new) desk.new
-        board.new.board.now) None)
+        board.new.board.now) nothing_seen)
         (fault_in result) }
     ensures board { board.new.board.ghost_name ≡ board.old.board.ghost_name }
 {

@@ -1,9 +1,10 @@
 //! The turns of a node: what comes over the link, and what the seats give.
 
-ghost use Rattle.std.specs.Prelude.{◌≡◌, ◌<◌, IfOk, None, Result, Ok, Err, false};
+ghost use Rattle.std.specs.Prelude.{◌≡◌, ◌<◌, IfOk, Result, Ok, Err, false};
 ghost use Rattle.smi_station.specs.Readers.{operators_in};
 ghost use Rattle.smi_node.specs.Carried.{StepsTo, edges, fault_in, node};
 ghost use Rattle.smi_node.specs.Linked.{shown_by};
+ghost use Rattle.smi_node.specs.Observed.{nothing_seen};
 ghost use Rattle.smi_node.specs.Rising.{StaysRisen, shown_to};
 ghost use Rattle.smi_node.specs.Served.{Serves, carrying, event_of, most_faults, operator_of_seat};
 ghost use Rattle.smi_node.specs.Turning.{ended_by, in_a_row};
@@ -119,9 +120,9 @@ impl<S: Stable, J: BoardId> Node<'_, '_, '_, '_, S, J> {
         ensures obeys { Obeys (carrying (StepsTo S.is_honest S.is_open S.rows S.may_find S.saves S.failures S.doubts)
             self.old.operators.now) seat event.entry
             (node self.old.station.now (edges (shown_by L.received L.handed L.failures L.receives link.old)
-            self.old.desk.now self.old.board.now) (V.told observer.old))
+            self.old.desk.now self.old.board.now) (V.seen observer.old))
             (node self.new.station.now (edges (shown_by L.received L.handed L.failures L.receives link.new)
-            self.new.desk.now self.new.board.now) (V.told observer.new)) (fault_in result) }
+            self.new.desk.now self.new.board.now) (V.seen observer.new)) (fault_in result) }
         ensures station { self.new.station.ghost_name ≡ self.old.station.ghost_name }
         ensures desk { self.new.desk.ghost_name ≡ self.old.desk.ghost_name }
         ensures board { self.new.board.ghost_name ≡ self.old.board.ghost_name }
@@ -156,9 +157,9 @@ impl<S: Stable, J: BoardId> Node<'_, '_, '_, '_, S, J> {
             (StepsTo S.is_honest S.is_open S.rows S.may_find S.saves S.failures S.doubts) self.old.operators.now)
             served.who served.seat
             (node self.old.station.now (edges (shown_by L.received L.handed L.failures L.receives link.old)
-            self.old.desk.now self.old.board.now) (V.told observer.old))
+            self.old.desk.now self.old.board.now) (V.seen observer.old))
             (node self.new.station.now (edges (shown_by L.received L.handed L.failures L.receives link.new)
-            self.new.desk.now self.new.board.now) (V.told observer.new)) (fault_in result) }
+            self.new.desk.now self.new.board.now) (V.seen observer.new)) (fault_in result) }
         ensures station { self.new.station.ghost_name ≡ self.old.station.ghost_name }
         ensures desk { self.new.desk.ghost_name ≡ self.old.desk.ghost_name }
         ensures board { self.new.board.ghost_name ≡ self.old.board.ghost_name }
@@ -183,9 +184,9 @@ impl<S: Stable, J: BoardId> Node<'_, '_, '_, '_, S, J> {
             (StepsTo S.is_honest S.is_open S.rows S.may_find S.saves S.failures S.doubts) self.old.operators.now)
             self.old.operators.now (seat_count self.old.desk.now)
             (node self.old.station.now (edges (shown_by L.received L.handed L.failures L.receives link.old)
-            self.old.desk.now self.old.board.now) (V.told observer.old))
+            self.old.desk.now self.old.board.now) (V.seen observer.old))
             (node self.new.station.now (edges (shown_by L.received L.handed L.failures L.receives link.new)
-            self.new.desk.now self.new.board.now) (V.told observer.new)) (fault_in result) }
+            self.new.desk.now self.new.board.now) (V.seen observer.new)) (fault_in result) }
         ensures station { self.new.station.ghost_name ≡ self.old.station.ghost_name }
         ensures desk { self.new.desk.ghost_name ≡ self.old.desk.ghost_name }
         ensures board { self.new.board.ghost_name ≡ self.old.board.ghost_name }
@@ -216,9 +217,9 @@ impl<S: Stable, J: BoardId> Node<'_, '_, '_, '_, S, J> {
         ensures hears { HearsSo (carrying
             (StepsTo S.is_honest S.is_open S.rows S.may_find S.saves S.failures S.doubts) self.old.operators.now)
             (node self.old.station.now (edges (shown_by L.received L.handed L.failures L.receives link.old)
-            self.old.desk.now self.old.board.now) (V.told observer.old))
+            self.old.desk.now self.old.board.now) (V.seen observer.old))
             (node self.new.station.now (edges (shown_by L.received L.handed L.failures L.receives link.new)
-            self.new.desk.now self.new.board.now) (V.told observer.new)) result }
+            self.new.desk.now self.new.board.now) (V.seen observer.new)) result }
         ensures station { self.new.station.ghost_name ≡ self.old.station.ghost_name }
         ensures desk { self.new.desk.ghost_name ≡ self.old.desk.ghost_name }
         ensures board { self.new.board.ghost_name ≡ self.old.board.ghost_name }
@@ -262,9 +263,9 @@ impl<S: Stable, J: BoardId> Node<'_, '_, '_, '_, S, J> {
             (StepsTo S.is_honest S.is_open S.rows S.may_find S.saves S.failures S.doubts) self.old.operators.now)
             self.old.operators.now
             (node self.old.station.now (edges (shown_by L.received L.handed L.failures L.receives link.old)
-            self.old.desk.now self.old.board.now) (V.told observer.old))
+            self.old.desk.now self.old.board.now) (V.seen observer.old))
             (node self.new.station.now (edges (shown_by L.received L.handed L.failures L.receives link.new)
-            self.new.desk.now self.new.board.now) (V.told observer.new)) result }
+            self.new.desk.now self.new.board.now) (V.seen observer.new)) result }
         ensures station { self.new.station.ghost_name ≡ self.old.station.ghost_name }
         ensures desk { self.new.desk.ghost_name ≡ self.old.desk.ghost_name }
         ensures board { self.new.board.ghost_name ≡ self.old.board.ghost_name }
@@ -295,9 +296,9 @@ impl<S: Stable, J: BoardId> Node<'_, '_, '_, '_, S, J> {
             (StepsTo S.is_honest S.is_open S.rows S.may_find S.saves S.failures S.doubts) self.old.operators.now)
             self.old.operators.now turns
             (node self.old.station.now (edges (shown_by L.received L.handed L.failures L.receives link.old)
-            self.old.desk.now self.old.board.now) (V.told observer.old))
+            self.old.desk.now self.old.board.now) (V.seen observer.old))
             (node self.new.station.now (edges (shown_by L.received L.handed L.failures L.receives link.new)
-            self.new.desk.now self.new.board.now) (V.told observer.new)) result }
+            self.new.desk.now self.new.board.now) (V.seen observer.new)) result }
         ensures station { self.new.station.ghost_name ≡ self.old.station.ghost_name }
         ensures desk { self.new.desk.ghost_name ≡ self.old.desk.ghost_name }
         ensures board { self.new.board.ghost_name ≡ self.old.board.ghost_name }
@@ -331,9 +332,9 @@ impl<S: Stable, J: BoardId> Node<'_, '_, '_, '_, S, J> {
             (StepsTo S.is_honest S.is_open S.rows S.may_find S.saves S.failures S.doubts) self.old.operators.now)
             self.old.operators.now turns
             (node self.old.station.now (edges (shown_by L.received L.handed L.failures L.receives link.old)
-            self.old.desk.now self.old.board.now) (V.told observer.old))
+            self.old.desk.now self.old.board.now) (V.seen observer.old))
             (node self.new.station.now (edges (shown_by L.received L.handed L.failures L.receives link.new)
-            self.new.desk.now self.new.board.now) (V.told observer.new)) result }
+            self.new.desk.now self.new.board.now) (V.seen observer.new)) result }
         ensures rises { StaysRisen (shown_to self.old.station.now.core) (shown_to self.new.station.now.core)
             self.old.board.now self.new.board.now }
         ensures station { self.new.station.ghost_name ≡ self.old.station.ghost_name }
@@ -370,8 +371,10 @@ pub fn serve<S: Stable, L: DatagramLink, J: BoardId, R: Wait>(
 ) -> Result<(), ServeFault>
     ensures serves { Serves (carrying (StepsTo S.is_honest S.is_open S.rows S.may_find S.saves S.failures S.doubts)
         (operators_in station.old.core)) (operators_in station.old.core) turns
-        (node station.old (edges (shown_by L.received L.handed L.failures L.receives link.old) desk.old board.old) None)
-        (node station.new (edges (shown_by L.received L.handed L.failures L.receives link.new) desk.new board.new) None)
+        (node station.old (edges (shown_by L.received L.handed L.failures L.receives link.old) desk.old board.old)
+        nothing_seen)
+        (node station.new (edges (shown_by L.received L.handed L.failures L.receives link.new) desk.new board.new)
+        nothing_seen)
         result }
     ensures rises { StaysRisen (shown_to station.old.core) (shown_to station.new.core) board.old board.new }
 {

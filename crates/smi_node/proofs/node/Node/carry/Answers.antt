@@ -13,8 +13,8 @@ returns-then-is_stopped_by-clause-carries g c =
     let made = c.step-made in
     carried_not steps c.args.self.now.operators.now c.args.input.event c.args.input.seat made.new.out
     c.args.self.now.station.now made.new.station (shows c.args.link.now) (shows c.send_of.new.link)
-    c.args.self.now.desk.now c.args.self.now.board.now (g.V.StepObserver.told c.args.observer.now)
-    (g.V.StepObserver.told c.on_step.new.self) made.result made.ensures c.send_of.ensures c.on_step.ensures
+    c.args.self.now.desk.now c.args.self.now.board.now (g.V.StepObserver.seen c.args.observer.now)
+    (g.V.StepObserver.seen c.on_step.new.self) made.result made.ensures c.send_of.ensures c.on_step.ensures
     (sym c.is_stopped_by.ensures ∙ c.if-is_stopped_by.true)
 
 pub returns-clause-carries : goal.returns-clause-carries
@@ -28,7 +28,7 @@ returns-clause-carries g c =
     c.asker_of-asker.result made.new.out
     c.args.self.now.station.now made.new.station (shows c.args.link.now) (shows c.send_of.new.link)
     c.args.self.now.desk.now c.follow.new.desk c.args.self.now.board.now c.follow.new.board
-    (g.V.StepObserver.told c.args.observer.now) (g.V.StepObserver.told c.on_step.new.self) made.result
+    (g.V.StepObserver.seen c.args.observer.now) (g.V.StepObserver.seen c.on_step.new.self) made.result
     (fault_in c.follow.result) made.ensures c.send_of.ensures c.on_step.ensures
     (sym c.is_stopped_by.ensures ∙ c.if-is_stopped_by.false)
     (c.code_of.ensures ∙ ap (λ (b : Bool). code_of b made.result) c.is_report-is_report.ensures)

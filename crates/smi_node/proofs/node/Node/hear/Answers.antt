@@ -15,10 +15,10 @@ returns-in-Received-clause-hears g c =
     let operators = c.args.self.now.operators.now in
     let first : Node (Whole g.row.S.Denot) = node c.args.self.now.station.now
     (edges (shows c.args.link.now) c.args.self.now.desk.now c.args.self.now.board.now)
-    (g.V.StepObserver.told c.args.observer.now) in
+    (g.V.StepObserver.seen c.args.observer.now) in
     let after : Node (Whole g.row.S.Denot) = node c.carry.new.self.station.now
     (edges (shows c.carry.new.link) c.carry.new.self.desk.now c.carry.new.self.board.now)
-    (g.V.StepObserver.told c.carry.new.observer) in
+    (g.V.StepObserver.seen c.carry.new.observer) in
     let bytes = take c.in-Received.count c.receive.new.buffer in
     let r = c.in-Received.ensures in
     heard_so (carrying steps operators) (Came bytes) first after c.carry.result c.has_come.result
@@ -35,11 +35,11 @@ returns-in-Nothing-clause-hears g c =
     let operators = c.args.self.now.operators.now in
     let first : Node (Whole g.row.S.Denot) = node c.args.self.now.station.now
     (edges (shows c.args.link.now) c.args.self.now.desk.now c.args.self.now.board.now)
-    (g.V.StepObserver.told c.args.observer.now) in
+    (g.V.StepObserver.seen c.args.observer.now) in
     let after : Node (Whole g.row.S.Denot) = node c.carry-in-Nothing.new.self.station.now
     (edges (shows c.carry-in-Nothing.new.link) c.carry-in-Nothing.new.self.desk.now
     c.carry-in-Nothing.new.self.board.now)
-    (g.V.StepObserver.told c.carry-in-Nothing.new.observer) in
+    (g.V.StepObserver.seen c.carry-in-Nothing.new.observer) in
     let r = c.in-Nothing.ensures in
     heard_so (carrying steps operators) Quiet first after c.carry-in-Nothing.result c.has_come-in-Nothing.result
     c.has_come-in-Nothing.ensures.fault c.has_come-in-Nothing.ensures.came refl (

@@ -21,12 +21,12 @@ loop-preserved g c =
     let operators = c.args.self.now.operators.now in
     let first : Node (Whole g.row.S.Denot) = node c.args.self.now.station.now
     (edges (shows c.args.link.now) c.args.self.now.desk.now c.args.self.now.board.now)
-    (g.V.StepObserver.told c.args.observer.now) in
+    (g.V.StepObserver.seen c.args.observer.now) in
     let before : Node (Whole g.row.S.Denot) = node c.loop.self.station.now
-    (edges (shows c.loop.link) c.loop.self.desk.now c.loop.self.board.now) (g.V.StepObserver.told c.loop.observer) in
+    (edges (shows c.loop.link) c.loop.self.desk.now c.loop.self.board.now) (g.V.StepObserver.seen c.loop.observer) in
     let after : Node (Whole g.row.S.Denot) = node c.turn.new.self.station.now
     (edges (shows c.turn.new.link) c.turn.new.self.desk.now c.turn.new.self.board.now)
-    (g.V.StepObserver.told c.turn.new.observer) in
+    (g.V.StepObserver.seen c.turn.new.observer) in
     let turned : (r : Result Bool CarryFault) → TurnsSo (carrying steps c.loop.self.operators.now)
     c.loop.self.operators.now before after r → TurnsSo (carrying steps operators) operators before after r =
     λ r. subst (λ (o : List ℕ). TurnsSo (carrying steps o) o before after r) c.loop.invariant.operators in
@@ -51,12 +51,12 @@ returns-then-faults-eq-MOST_FAULTS-clause-serves g c =
     let operators = c.args.self.now.operators.now in
     let first : Node (Whole g.row.S.Denot) = node c.args.self.now.station.now
     (edges (shows c.args.link.now) c.args.self.now.desk.now c.args.self.now.board.now)
-    (g.V.StepObserver.told c.args.observer.now) in
+    (g.V.StepObserver.seen c.args.observer.now) in
     let before : Node (Whole g.row.S.Denot) = node c.loop.self.station.now
-    (edges (shows c.loop.link) c.loop.self.desk.now c.loop.self.board.now) (g.V.StepObserver.told c.loop.observer) in
+    (edges (shows c.loop.link) c.loop.self.desk.now c.loop.self.board.now) (g.V.StepObserver.seen c.loop.observer) in
     let after : Node (Whole g.row.S.Denot) = node c.turn.new.self.station.now
     (edges (shows c.turn.new.link) c.turn.new.self.desk.now c.turn.new.self.board.now)
-    (g.V.StepObserver.told c.turn.new.observer) in
+    (g.V.StepObserver.seen c.turn.new.observer) in
     let turned : (r : Result Bool CarryFault) → TurnsSo (carrying steps c.loop.self.operators.now)
     c.loop.self.operators.now before after r → TurnsSo (carrying steps operators) operators before after r =
     λ r. subst (λ (o : List ℕ). TurnsSo (carrying steps o) o before after r) c.loop.invariant.operators in
@@ -73,12 +73,12 @@ returns-in-Err-clause-serves g c =
     let operators = c.args.self.now.operators.now in
     let first : Node (Whole g.row.S.Denot) = node c.args.self.now.station.now
     (edges (shows c.args.link.now) c.args.self.now.desk.now c.args.self.now.board.now)
-    (g.V.StepObserver.told c.args.observer.now) in
+    (g.V.StepObserver.seen c.args.observer.now) in
     let before : Node (Whole g.row.S.Denot) = node c.loop.self.station.now
-    (edges (shows c.loop.link) c.loop.self.desk.now c.loop.self.board.now) (g.V.StepObserver.told c.loop.observer) in
+    (edges (shows c.loop.link) c.loop.self.desk.now c.loop.self.board.now) (g.V.StepObserver.seen c.loop.observer) in
     let after : Node (Whole g.row.S.Denot) = node c.turn.new.self.station.now
     (edges (shows c.turn.new.link) c.turn.new.self.desk.now c.turn.new.self.board.now)
-    (g.V.StepObserver.told c.turn.new.observer) in
+    (g.V.StepObserver.seen c.turn.new.observer) in
     let turned : (r : Result Bool CarryFault) → TurnsSo (carrying steps c.loop.self.operators.now)
     c.loop.self.operators.now before after r → TurnsSo (carrying steps operators) operators before after r =
     λ r. subst (λ (o : List ℕ). TurnsSo (carrying steps o) o before after r) c.loop.invariant.operators in
@@ -96,9 +96,9 @@ returns-clause-serves g c =
     let operators = c.args.self.now.operators.now in
     let first : Node (Whole g.row.S.Denot) = node c.args.self.now.station.now
     (edges (shows c.args.link.now) c.args.self.now.desk.now c.args.self.now.board.now)
-    (g.V.StepObserver.told c.args.observer.now) in
+    (g.V.StepObserver.seen c.args.observer.now) in
     let before : Node (Whole g.row.S.Denot) = node c.loop.self.station.now
-    (edges (shows c.loop.link) c.loop.self.desk.now c.loop.self.board.now) (g.V.StepObserver.told c.loop.observer) in
+    (edges (shows c.loop.link) c.loop.self.desk.now c.loop.self.board.now) (g.V.StepObserver.seen c.loop.observer) in
     let made : c.loop.counter ≡ c.args.turns = (let most = c.loop.auto.counter-end in
     let least = c.loop-test.false in omega (arith, most, least)) in
     served steps operators c.loop.counter c.args.turns c.loop.faults first before c.loop.invariant.made made

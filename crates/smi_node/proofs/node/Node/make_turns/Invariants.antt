@@ -17,9 +17,9 @@ invariant-loop g l =
       made : MadeTurns (carrying steps operators) operators l.counter l.faults
           (node l.initial.self.station.now (edges (shows l.initial.link) l.initial.self.desk.now
           l.initial.self.board.now)
-          (g.V.StepObserver.told l.initial.observer))
+          (g.V.StepObserver.seen l.initial.observer))
           (node l.self.station.now (edges (shows l.link) l.self.desk.now l.self.board.now)
-          (g.V.StepObserver.told l.observer));
+          (g.V.StepObserver.seen l.observer));
       station : l.self.station.ghost_name ≡ l.initial.self.station.ghost_name;
       desk : l.self.desk.ghost_name ≡ l.initial.self.desk.ghost_name;
       board : l.self.board.ghost_name ≡ l.initial.self.board.ghost_name;

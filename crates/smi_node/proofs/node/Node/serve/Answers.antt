@@ -14,11 +14,11 @@ returns-clause-rises g c =
     g.L.DatagramLink.receives in
     let first : Node (Whole g.row.S.Denot) = node c.args.self.now.station.now
     (edges (shows c.args.link.now) c.args.self.now.desk.now c.args.self.now.board.now)
-    (g.V.StepObserver.told c.args.observer.now) in
+    (g.V.StepObserver.seen c.args.observer.now) in
     let last = c.make_turns.new.self in
     let after : Node (Whole g.row.S.Denot) = node last.station.now
     (edges (shows c.make_turns.new.link) last.desk.now last.board.now)
-    (g.V.StepObserver.told c.make_turns.new.observer) in
+    (g.V.StepObserver.seen c.make_turns.new.observer) in
     λ risen.
     let still = serves (Whole g.row.S.Denot) steps (λ (w : Whole g.row.S.Denot). shown_to w.core)
     (λ a b e handed r. step_shows s.is_honest s.is_open s.rows s.may_find s.saves s.failures s.doubts a b e handed r)

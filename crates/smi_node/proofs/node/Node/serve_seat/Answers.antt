@@ -14,10 +14,10 @@ returns-in-Some-clause-serves g c =
     g.L.DatagramLink.receives in
     let first : Node (Whole g.row.S.Denot) = node c.args.self.now.station.now
     (edges (shows c.args.link.now) c.args.self.now.desk.now c.args.self.now.board.now)
-    (g.V.StepObserver.told c.args.observer.now) in
+    (g.V.StepObserver.seen c.args.observer.now) in
     let after : Node (Whole g.row.S.Denot) = node c.serve_order.new.self.station.now
     (edges (shows c.serve_order.new.link) c.serve_order.new.self.desk.now c.serve_order.new.self.board.now)
-    (g.V.StepObserver.told c.serve_order.new.observer) in (
+    (g.V.StepObserver.seen c.serve_order.new.observer) in (
       Some c.in-Some.order,
       c.next.new.self,
       c.in-Some.ensures.step,

@@ -19,13 +19,13 @@ loop-seat-preserved g c =
     let operators = c.args.self.now.operators.now in
     let first : Node (Whole g.row.S.Denot) = node c.args.self.now.station.now
     (edges (shows c.args.link.now) c.args.self.now.desk.now c.args.self.now.board.now)
-    (g.V.StepObserver.told c.args.observer.now) in
+    (g.V.StepObserver.seen c.args.observer.now) in
     let before : Node (Whole g.row.S.Denot) = node c.loop-seat.self.station.now
     (edges (shows c.loop-seat.link) c.loop-seat.self.desk.now c.loop-seat.self.board.now)
-    (g.V.StepObserver.told c.loop-seat.observer) in
+    (g.V.StepObserver.seen c.loop-seat.observer) in
     let after : Node (Whole g.row.S.Denot) = node c.serve_seat.new.self.station.now
     (edges (shows c.serve_seat.new.link) c.serve_seat.new.self.desk.now c.serve_seat.new.self.board.now)
-    (g.V.StepObserver.told c.serve_seat.new.observer) in
+    (g.V.StepObserver.seen c.serve_seat.new.observer) in
     let who = c.operator_of_seat-who in
     let seat = c.loop-seat.seat in
     let one : ServesSeat (carrying steps operators) who.result seat before after None =
@@ -51,13 +51,13 @@ returns-in-Err-clause-serves g c =
     let operators = c.args.self.now.operators.now in
     let first : Node (Whole g.row.S.Denot) = node c.args.self.now.station.now
     (edges (shows c.args.link.now) c.args.self.now.desk.now c.args.self.now.board.now)
-    (g.V.StepObserver.told c.args.observer.now) in
+    (g.V.StepObserver.seen c.args.observer.now) in
     let before : Node (Whole g.row.S.Denot) = node c.loop-seat.self.station.now
     (edges (shows c.loop-seat.link) c.loop-seat.self.desk.now c.loop-seat.self.board.now)
-    (g.V.StepObserver.told c.loop-seat.observer) in
+    (g.V.StepObserver.seen c.loop-seat.observer) in
     let after : Node (Whole g.row.S.Denot) = node c.serve_seat.new.self.station.now
     (edges (shows c.serve_seat.new.link) c.serve_seat.new.self.desk.now c.serve_seat.new.self.board.now)
-    (g.V.StepObserver.told c.serve_seat.new.observer) in
+    (g.V.StepObserver.seen c.serve_seat.new.observer) in
     let who = c.operator_of_seat-who in
     let seat = c.loop-seat.seat in
     broken_seat (carrying steps operators) operators c.seat_count-seats.result seat _ who.result first before after

@@ -17,9 +17,9 @@ invariant-loop-seat g l =
       served : ServesSeats (carrying steps operators) operators l.seats l.seat
           (node l.initial.self.station.now (edges (shows l.initial.link) l.initial.self.desk.now
           l.initial.self.board.now)
-          (g.V.StepObserver.told l.initial.observer))
+          (g.V.StepObserver.seen l.initial.observer))
           (node l.self.station.now (edges (shows l.link) l.self.desk.now l.self.board.now)
-          (g.V.StepObserver.told l.observer));
+          (g.V.StepObserver.seen l.observer));
       count : seat_count l.self.desk.now ≡ l.seats;
       station : l.self.station.ghost_name ≡ l.initial.self.station.ghost_name;
       desk : l.self.desk.ghost_name ≡ l.initial.self.desk.ghost_name;

@@ -16,15 +16,15 @@ returns-in-Ok-serve_seats-clause-turns g c =
     let operators = c.args.self.now.operators.now in
     let first : Node (Whole g.row.S.Denot) = node c.args.self.now.station.now
     (edges (shows c.args.link.now) c.args.self.now.desk.now c.args.self.now.board.now)
-    (g.V.StepObserver.told c.args.observer.now) in
+    (g.V.StepObserver.seen c.args.observer.now) in
     let before : Node (Whole g.row.S.Denot) = node c.hear.new.self.station.now
     (edges (shows c.hear.new.link) c.hear.new.self.desk.now c.hear.new.self.board.now)
-    (g.V.StepObserver.told c.hear.new.observer) in
+    (g.V.StepObserver.seen c.hear.new.observer) in
     let after : Node (Whole g.row.S.Denot) = node c.serve_seats.new.self.station.now
     (edges (shows c.serve_seats.new.link) c.serve_seats.new.self.desk.now c.serve_seats.new.self.board.now)
-    (g.V.StepObserver.told c.serve_seats.new.observer) in
-    whole_turn (carrying steps operators) operators first before after.station after.edges after.told
-    (g.V.StepObserver.told c.on_turn.new.self) c.in-Ok.failed c.in-Ok.ensures.hears
+    (g.V.StepObserver.seen c.serve_seats.new.observer) in
+    whole_turn (carrying steps operators) operators first before after.station after.edges after.seen
+    (g.V.StepObserver.seen c.on_turn.new.self) c.in-Ok.failed c.in-Ok.ensures.hears
     (subst (λ (o : List ℕ). ServesAll (carrying steps o) o (seat_count before.edges.desk) before after None)
     c.hear.ensures.operators c.in-Ok-serve_seats.ensures.serves)
     c.on_turn.ensures
@@ -38,13 +38,13 @@ returns-in-Err-serve_seats-clause-turns g c =
     let operators = c.args.self.now.operators.now in
     let first : Node (Whole g.row.S.Denot) = node c.args.self.now.station.now
     (edges (shows c.args.link.now) c.args.self.now.desk.now c.args.self.now.board.now)
-    (g.V.StepObserver.told c.args.observer.now) in
+    (g.V.StepObserver.seen c.args.observer.now) in
     let before : Node (Whole g.row.S.Denot) = node c.hear.new.self.station.now
     (edges (shows c.hear.new.link) c.hear.new.self.desk.now c.hear.new.self.board.now)
-    (g.V.StepObserver.told c.hear.new.observer) in
+    (g.V.StepObserver.seen c.hear.new.observer) in
     let after : Node (Whole g.row.S.Denot) = node c.serve_seats.new.self.station.now
     (edges (shows c.serve_seats.new.link) c.serve_seats.new.self.desk.now c.serve_seats.new.self.board.now)
-    (g.V.StepObserver.told c.serve_seats.new.observer) in
+    (g.V.StepObserver.seen c.serve_seats.new.observer) in
     let fault = c.in-Err-serve_seats.fault in
     broken_turn (carrying steps operators) operators first before after c.in-Ok.failed fault c.in-Ok.ensures.hears
     (subst (λ (o : List ℕ). ServesAll (carrying steps o) o (seat_count before.edges.desk) before after (Some fault))
