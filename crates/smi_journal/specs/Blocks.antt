@@ -1,12 +1,11 @@
 -- The lines of a block: what a station has loaded, or what stands.
-use Rattle.std.specs.Prelude.{ℕ, ◌++◌, List, [], ◌∷◌, codes}
+use Rattle.std.specs.Prelude.{ℕ, List, [], ◌∷◌, codes}
 use Rattle.std.specs.Fmt.{decimal}
 use Rattle.smi_grant.specs.Record.{Standing}
-use Rattle.smi_grant.specs.declared.command.Command.{Command}
 use Rattle.smi_grant.specs.declared.holder.Holder.{Holder}
 use Rattle.smi_grant.specs.declared.state.Shown.{Shown}
 use Rattle.smi_rows.specs.declared.mode.Mode.{Mode}
-use Rattle.smi_schedule.specs.TraceWords.{command_words, domain_word, holder_word, mode_word, object_word, phase_word}
+use Rattle.smi_schedule.specs.TraceWords.{domain_word, holder_word, mode_word, object_word, phase_word}
 use Rattle.smi_schedule.specs.TraceWords.{state_word, version_word}
 use Rattle.smi_tree.specs.Hierarchy.{Hierarchy}
 use Rattle.smi_journal.specs.Words.{line_text}

@@ -1,3 +1,4 @@
 pub mod Blocks
+pub mod Noted
 pub mod Text
 pub mod Words

@@ -1,7 +1,6 @@
 -- The words of a journal's own lines.
-use Rattle.std.specs.Prelude.{ℕ, ◌++◌, List, [], ◌∷◌, map}
+use Rattle.std.specs.Prelude.{ℕ, ◌++◌, List, [], ◌∷◌}
 use Rattle.std.specs.Fmt.{decimal}
-use Rattle.smi_grant.specs.declared.state.Version.{Version}
 use Rattle.smi_schedule.specs.TraceWords.{version_word}
 use Rattle.smi_journal.specs.declared.line.JournalWord.{JournalWord}
 use Rattle.smi_journal.specs.declared.line.JournalWord.TheVariants as word

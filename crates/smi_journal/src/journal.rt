@@ -2,17 +2,23 @@
 //!
 //! Nothing but a clock says when a file is begun, so that it is begun when it has to be is tested alone.
 
+ghost use Rattle.std.specs.Prelude.{◌≡◌};
+ghost use Rattle.smi_journal.specs.Noted.{MayBegin, NotesOne, NotesStep};
+
 use crate::block::StationState;
 use crate::opening::{FileStart, Room, spell_name, spell_opening};
-use crate::step::{LineContext, is_silent, write_step};
+use crate::step::{LineContext, is_silent};
+use crate::step_writer::StepWriter;
 use crate::time::DAY;
 use crate::typed::TypedLine;
-use smi_base::write_whole;
+use smi_schedule::Unwritten;
 use smi_station_output::Out;
 use smi_tree::Tree;
-use std::alloc::Global;
+use std::alloc::{AllocError, Global};
 use std::fs::{self, File, Files, OpenFile};
 use std::io::{self, ErrorKind};
+use std::marker::Model;
+use std::str;
 use std::sync::Arc;
 use std::time::{Clock, SystemTime, UNIX_EPOCH};
 
@@ -52,24 +58,17 @@ pub enum Noted {
     Resumed(u64),
 }
 
-/// A file that is written.
-#[derive(Drop)]
-struct OpenedFile<F: Drop> {
-    file: F,
-    /// How many bytes it has.
-    bytes: u64,
-    /// On which day it was begun, from 1970.
-    day: u64,
-}
-
 /// The journal of a station that is served.
+///
+/// Contracts see all that it did, the newest first, and that its file has just the entries of each step since it was
+/// begun.
 #[derive(Drop)]
 pub struct Journal<H: Files + Drop> {
     alloc: Global,
     rt: H,
     tree: Arc<Tree, Global>,
     setup: Arc<JournalSetup, Global>,
-    current: Option<OpenedFile<H::File>>,
+    steps: StepWriter<H::File>,
     /// The path of the file that was begun last, for the thread that syncs it.
     begun: Option<String>,
     room: Room,
@@ -79,6 +78,60 @@ pub struct Journal<H: Files + Drop> {
     unwritten: u64,
     /// When a new file may be begun, in milliseconds since 1970.
     next_try: u64,
+}
+
+impl<H: Files + Drop> Model for Journal<H> {
+    ghost use Rattle.smi_journal.specs.Noted.{Notes};
+
+    ghost Value = { Notes };
+
+    ghost view = { λ j. j.steps };
+}
+
+/// Makes a new file whose name tells this time, and which is not there yet. Its path is the text of the room then.
+fn create_file<H: Files>(
+    rt: &H,
+    room: &mut Room,
+    tree: &Tree,
+    setup: &JournalSetup,
+    now: u64,
+) -> io::Result<H::File> {
+    for number in 1..=MOST_NAMES {
+        let name = spell_name(room, tree, setup, now, number)?;
+        match File::create_new(rt, name) {
+            Err(e) if e.kind() == ErrorKind::AlreadyExists => {}
+            created => return created,
+        }
+    }
+    Err(io::Error::from(ErrorKind::AlreadyExists))
+}
+
+/// Returns the path that is the text of a room.
+fn path_in(alloc: Global, room: &Room) -> Result<String, AllocError> {
+    match str::from_utf8(room.text.as_slice()) {
+        Ok(path) => String::from_str(alloc, path),
+        Err(_) => Err(AllocError),
+    }
+}
+
+/// Puts lines that were typed together, each with the prefix of the room.
+fn spell_typed(
+    room: &mut Room,
+    tree: &Tree,
+    station: u16,
+    lines: &Vec<TypedLine>,
+) -> Result<(), AllocError> {
+    let Room { text, prefix, .. } = room;
+    let context = LineContext {
+        tree,
+        station,
+        prefix: prefix.as_slice(),
+    };
+    text.clear();
+    for typed in lines {
+        typed.push(text, context)?;
+    }
+    Ok(())
 }
 
 impl<H: Files + Clock + Drop> Journal<H> {
@@ -92,12 +145,13 @@ impl<H: Files + Clock + Drop> Journal<H> {
         setup: Arc<JournalSetup, Global>,
         state: &T,
     ) -> io::Result<Journal<H>> {
+        let steps = StepWriter::new(Arc::try_clone(&tree)?, setup.station);
         let mut journal = Journal {
             alloc,
             rt,
             tree,
             setup,
-            current: None,
+            steps,
             begun: None,
             room: Room::new(alloc),
             typed: Vec::new(alloc),
@@ -119,147 +173,177 @@ impl<H: Files + Clock + Drop> Journal<H> {
         }
     }
 
-    /// Makes a new file whose name tells this time, and which is not there yet.
-    fn create(&mut self, now: u64) -> io::Result<H::File> {
-        for number in 1..=MOST_NAMES {
-            let name = spell_name(&mut self.room, &self.tree, &self.setup, now, number)?;
-            match File::create_new(&self.rt, name) {
-                Err(e) if e.kind() == ErrorKind::AlreadyExists => {}
-                Err(e) => return Err(e),
-                Ok(file) => {
-                    self.begun = Some(String::from_str(self.alloc, name)?);
-                    return Ok(file);
-                }
-            }
-        }
-        Err(io::Error::from(ErrorKind::AlreadyExists))
-    }
-
-    /// Begins a new file, with what stands by then.
+    /// Begins a new file, with what stands by then. On an error it keeps the file that it has.
     fn begin_file<T: StationState>(
         &mut self,
         now: u64,
         state: &T,
         start: FileStart,
-    ) -> io::Result<()> {
-        let mut file = self.create(now)?;
+    ) -> io::Result<()>
+        ensures { MayBegin self.old.notings self.new.notings }
+    {
+        let file = create_file(&self.rt, &mut self.room, &self.tree, &self.setup, now)?;
+        self.begun = Some(path_in(self.alloc, &self.room)?);
         spell_opening(&mut self.room, &self.tree, &self.setup, now, state, start)?;
-        let text = self.room.text.as_slice();
-        if write_whole(&mut file, text).is_err() {
-            return Err(io::Error::from(ErrorKind::WriteZero));
+        match self.steps.begin(file, &self.room.text, now / DAY) {
+            Ok(()) => Ok(()),
+            Err(_) => Err(io::Error::from(ErrorKind::WriteZero)),
         }
-        self.current = Some(OpenedFile {
-            file,
-            bytes: text.len() as u64,
-            day: now / DAY,
-        });
-        Ok(())
     }
 
     /// Takes the path of the file that was begun last, once, for the thread that syncs it from then on.
-    pub fn take_begun(&mut self) -> Option<String> {
+    pub fn take_begun(&mut self) -> Option<String>
+        ensures { self.new ≡ self.old }
+    {
         self.begun.take()
     }
 
-    /// Ends the file after a fault, and counts the step.
-    fn give_up(&mut self, now: u64) -> Noted {
-        let was_written = self.current.is_some();
-        self.current = None;
+    /// Counts a step that is written nowhere, and says when a file may be begun again.
+    fn count_lost(&mut self, now: u64)
+        ensures { self.new ≡ self.old }
+    {
         self.typed.clear();
         self.unwritten = self.unwritten.saturating_add(1);
         self.next_try = now.saturating_add(PATIENCE);
-        if was_written {
-            Noted::Failed
-        } else {
-            Noted::Failing
-        }
     }
 
     /// Notes a line that was typed at a console: it is written with the next step, before what that left.
     ///
     /// Without a file, or without memory, it is told nowhere.
-    pub fn note_typed(&mut self, typed: TypedLine) {
-        if self.current.is_some() {
+    pub fn note_typed(&mut self, typed: TypedLine)
+        ensures { self.new ≡ self.old }
+    {
+        if self.steps.file().is_some() {
             let _ = self.typed.push(typed);
         }
     }
 
-    /// Writes what was typed since the last step that was written, and then a step, all at once into the current file.
-    fn write(&mut self, now: u64, boot: u32, out: &Out) -> io::Result<()> {
-        self.room
-            .set_prefix(&self.tree, self.setup.station, boot, now)?;
-        let Some(current) = &mut self.current else {
-            return Err(io::Error::from(ErrorKind::NotFound));
-        };
-        let Room {
-            text,
-            line,
-            prefix,
-            ..
-        } = &mut self.room;
-        let context = LineContext {
-            tree: &self.tree,
-            station: self.setup.station,
-            prefix: prefix.as_slice(),
-        };
-        text.clear();
-        for typed in &self.typed {
-            typed.push(text, context)?;
-        }
+    /// Puts together what each line of a step begins with, and what was typed before it.
+    fn prepare(&mut self, now: u64, boot: u32) -> Result<(), AllocError>
+        ensures { self.new ≡ self.old }
+    {
+        let station = self.setup.station;
+        self.room.set_prefix(&self.tree, station, boot, now)?;
+        spell_typed(&mut self.room, &self.tree, station, &self.typed)?;
         self.typed.clear();
-        if write_step(&mut current.file, text, line, context, out).is_err() {
-            return Err(io::Error::from(ErrorKind::WriteZero));
-        }
-        current.bytes = current.bytes.saturating_add(text.len() as u64);
-        if self.setup.is_synced && !out.entries().as_slice().is_empty() {
-            current.file.sync_data()?;
-        }
         Ok(())
     }
 
-    /// Returns whether the current file is to be followed by a new one.
-    fn is_full(&self, now: u64) -> bool {
-        match &self.current {
-            Some(current) => current.bytes >= MOST_BYTES || current.day != now / DAY,
-            None => false,
+    /// Writes what was typed since the last step that was written, and then a step, all at once into the current file.
+    /// On an error the step is lost, and the file is ended.
+    fn write(&mut self, now: u64, boot: u32, out: &Out) -> Result<(), Unwritten>
+        ensures { NotesOne out.now self.old.notings self.new.notings }
+    {
+        if self.prepare(now, boot).is_err() {
+            self.steps.lose(out);
+            return Err(Unwritten::Memory);
+        }
+        self.steps.write(&mut self.room, out)
+    }
+
+    /// Syncs the file after a step that saved, if the journal is to do so. On an error it ends the file.
+    fn sync(&mut self, out: &Out) -> io::Result<()>
+        ensures { self.new.notings ≡ self.old.notings }
+    {
+        if !self.setup.is_synced || out.entries().as_slice().is_empty() {
+            return Ok(());
+        }
+        let synced = match self.steps.file() {
+            Some(file) => file.sync_data(),
+            None => Ok(()),
+        };
+        if synced.is_err() {
+            self.steps.end();
+        }
+        synced
+    }
+
+    /// Writes a step as [`Self::write`] does, and syncs the file if it is to be. Returns whether both went well.
+    fn write_and_sync(&mut self, now: u64, boot: u32, out: &Out) -> bool
+        ensures { NotesOne out.now self.old.notings self.new.notings }
+    {
+        match self.write(now, boot, out) {
+            Ok(()) => self.sync(out).is_ok(),
+            Err(_) => false,
         }
     }
 
-    /// Begins a file again after a fault, if it is time.
-    fn resume<T: StationState>(&mut self, now: u64, state: &T) -> Noted {
-        if now < self.next_try || self.begin_file(now, state, FileStart::Continues).is_err() {
-            let next = self.next_try;
-            let noted = self.give_up(now);
-            // What is to be tried at this time is not put off by the steps before it.
-            self.next_try = if now < next { next } else { self.next_try };
-            return noted;
+    /// Begins a file again after a fault, if it is time. Returns whether it did.
+    fn begin_again<T: StationState>(&mut self, now: u64, state: &T) -> bool
+        ensures { MayBegin self.old.notings self.new.notings }
+    {
+        if now < self.next_try {
+            return false;
         }
-        let lost = self.unwritten.saturating_add(1);
-        self.unwritten = 0;
-        Noted::Resumed(lost)
+        self.begin_file(now, state, FileStart::Continues).is_ok()
+    }
+
+    /// Counts a step while there is no file. What is to be tried at some time is not put off by the steps before it.
+    fn count_without_file(&mut self, now: u64)
+        ensures { self.new ≡ self.old }
+    {
+        let next = self.next_try;
+        self.count_lost(now);
+        if now < next {
+            self.next_try = next;
+        }
+    }
+
+    /// Begins a file again after a fault, if it is time. The step is lost.
+    fn resume<T: StationState>(&mut self, now: u64, state: &T, out: &Out) -> Noted
+        ensures { NotesStep out.now self.old.notings self.new.notings }
+    {
+        self.steps.lose(out);
+        if self.begin_again(now, state) {
+            let lost = self.unwritten.saturating_add(1);
+            self.unwritten = 0;
+            Noted::Resumed(lost)
+        } else {
+            self.count_without_file(now);
+            Noted::Failing
+        }
+    }
+
+    /// Begins the next file, if this one is full or of another day. Returns true if that fails: it ends the file then,
+    /// and the steps that follow are written nowhere.
+    fn follow_file<T: StationState>(&mut self, now: u64, state: &T) -> bool
+        ensures { MayBegin self.old.notings self.new.notings }
+    {
+        if !self.steps.is_full(MOST_BYTES, now / DAY) {
+            return false;
+        }
+        if self.begin_file(now, state, FileStart::Continues).is_ok() {
+            return false;
+        }
+        self.steps.end();
+        self.typed.clear();
+        self.next_try = now.saturating_add(PATIENCE);
+        true
     }
 
     /// Notes a step: writes what was typed before it, and a line for each entry that it has handed out, all at once.
     ///
     /// The state is that of the station after the step. A fault ends the file and never the node: the steps that follow
     /// are counted, and after a minute a new file is begun, with what stands by then.
-    pub fn note<T: StationState>(&mut self, state: &T, out: &Out) -> Noted {
+    pub fn note<T: StationState>(&mut self, state: &T, out: &Out) -> Noted
+        ensures { NotesStep out.now self.old.notings self.new.notings }
+    {
         if is_silent(out) && self.typed.is_empty() {
+            self.steps.skip(out);
             return Noted::Written;
         }
         let now = self.now().unwrap_or(0);
-        if self.current.is_none() {
-            return self.resume(now, state);
+        if self.steps.file().is_none() {
+            return self.resume(now, state, out);
         }
-        if self.write(now, state.boot(), out).is_err() {
-            return self.give_up(now);
+        if !self.write_and_sync(now, state.boot(), out) {
+            self.count_lost(now);
+            return Noted::Failed;
         }
-        if self.is_full(now) && self.begin_file(now, state, FileStart::Continues).is_err() {
-            // This step is written; those that follow are not.
-            let noted = self.give_up(now);
-            self.unwritten = self.unwritten.saturating_sub(1);
-            return noted;
+        if self.follow_file(now, state) {
+            Noted::Failed
+        } else {
+            Noted::Written
         }
-        Noted::Written
     }
 }

@@ -9,6 +9,10 @@
 //! time, the station and the boot, and behind it the line of a trace. Their clauses say which text that is: the entries
 //! of the step by its definition, one line each, in their order (`specs/Text`).
 //!
+//! What a journal did is a list that contracts alone see (`specs/Noted`): the steps that it was told, in order, and the
+//! files that it began. Its file has just what that list says: since it was begun each step is written or has left
+//! nothing to write, and after one that is lost it has no file.
+//!
 //! What a journal asks of a station is a trait of six questions ([`StationState`]), because a function over a station
 //! is expensive to prove.
 #![tactic(auto)]
@@ -16,15 +20,18 @@
 mod block;
 mod journal;
 mod line;
+mod notes;
 mod opening;
 mod station;
 mod step;
+mod step_writer;
 mod time;
 mod typed;
 
 pub use block::StationState;
 pub use journal::{Journal, JournalSetup, MOST_BYTES, Noted, PATIENCE};
 pub use line::JournalWord;
+pub use notes::Noting;
 pub use step::{LineContext, is_silent, push_entry, push_step, write_step};
 pub use time::push_time;
 pub use typed::TypedLine;
