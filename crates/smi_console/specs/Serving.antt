@@ -1,10 +1,10 @@
 -- How long a node serves, and what that comes to.
-use Rattle.std.specs.Prelude.{ℕ, zero, suc, ◌≡◌, ◌⊎◌, ◌<◌, ◌≤◌, List, Option, Result, Ok, Err}
+use Rattle.std.specs.Prelude.{ℕ, zero, suc, ◌≡◌, ◌⊎◌, ◌<◌, ◌≤◌, List, Result, Ok, Err}
 use Rattle.smi_rows.specs.Store.{Rows, IsSame, IfSure, IfUnsure, IfFailed, IfCalm}
 use Rattle.smi_rows.specs.declared.stable.StoreFault.{StoreFault}
 use Rattle.smi_station.specs.Readers.{Whole}
 use Rattle.smi_node.specs.Carried.{Edges, Node, StepsTo, node}
-use Rattle.smi_node.specs.Observed.{Stepped}
+use Rattle.smi_node.specs.Observed.{Seen}
 use Rattle.smi_node.specs.Served.{Serves, carrying}
 use Rattle.smi_node.specs.declared.turns.ServeFault.{ServeFault}
 use Rattle.smi_console.specs.declared.exit.StartError.{StartError}
@@ -72,8 +72,8 @@ ServesFor {T} V Endless before after (Err f) =
 -- a station is served so, with some link, some seats and some board, before some observer
 abbrev pub IsServed : {T : Type 0} → Serving T → Turns → T → T → Result (Unit {0}) ServeFault → Type 0
 IsServed V turns before after r =
-    (first : Edges) × (last : Edges) × (told : Option (List Stepped)) × (tells : Option (List Stepped))
-    × ServesFor V turns (node before first told) (node after last tells) r
+    (first : Edges) × (last : Edges) × (seen : Seen) × (sees : Seen)
+    × ServesFor V turns (node before first seen) (node after last sees) r
 
 -- a station is served, or left as it is
 abbrev pub IsServedIfStarted : {T : Type 0} → Serving T → Turns → T → T

@@ -1,12 +1,8 @@
 //! Forwards the answers, the states and the actions of a node's steps to the thread of its sessions.
 
-ghost use Rattle.std.specs.Prelude.{None};
-
 use crate::event_queue::{EventQueue, StationNews};
-use crate::journal_keeper::JournalKeeper;
 use smi_grant::{Holder, Shown};
 use smi_journal::StationState;
-use smi_node::StepObserver;
 use smi_protocol::{Event, Heard, StepFault};
 use smi_rows::{Mode, Stable};
 use smi_session::{ActionDone, ChildMode, ChildState, StationEvent, step_action};
@@ -19,8 +15,7 @@ use std::sync::{Arc, Wait};
 use std::time::Clock;
 
 /// Forwards the states that the objects of its station pass through, those that the station takes, and the actions that
-/// it does, and wakes that thread at the end of a turn that brought it an answer or news. Before that it notes the step
-/// in the journal of the node, if there is one.
+/// it does, and wakes that thread at the end of a turn that brought it an answer or news.
 ///
 /// A state for which there is no room is told at a later step, as the newest of its object by then. So is the mode of a
 /// child.
@@ -34,8 +29,6 @@ pub(crate) struct EventForwarder<H: Files + Drop> {
     /// The children of the domains of the station, and their modes as they were told last.
     children: Vec<u16>,
     modes: Vec<Option<ChildMode>>,
-    /// The journal of the node, if it has one.
-    journal: Option<JournalKeeper<H>>,
 }
 
 /// Returns how a domain of a station has its child: None if it is no child of one.
@@ -94,16 +87,10 @@ impl<H: Files + Wait + Clock + Drop> EventForwarder<H> {
             has_coalesced: true,
             children,
             modes,
-            journal: None,
         };
         forwarder.send_coalesced();
         forwarder.send_modes(station);
         Ok(forwarder)
-    }
-
-    /// Lets each step be noted in a journal from now on.
-    pub(crate) fn keep_journal(&mut self, journal: JournalKeeper<H>) {
-        self.journal = Some(journal);
     }
 
     /// Tells a state, or coalesces it if there is no room for it, or if others are to be told before it.
@@ -187,23 +174,20 @@ impl<H: Files + Wait + Clock + Drop> EventForwarder<H> {
             }
         }
     }
-}
 
-impl<H: Files + Wait + Clock + Drop> StepObserver for EventForwarder<H> {
-    ghost told = { λ _. None };
+    /// Wakes the thread of the sessions at the end of this turn.
+    pub(crate) fn wake(&mut self) {
+        self.queue.wake();
+    }
 
-    fn on_step<S: Stable>(
+    /// Forwards what came of a step.
+    pub(crate) fn forward<S: Stable>(
         &mut self,
         station: &Station<'_, S>,
         event: &Event<'_>,
         made: &Result<Heard, StepFault>,
         out: &Out,
     ) {
-        if let Some(journal) = &mut self.journal {
-            if journal.note(station, out) {
-                self.queue.wake();
-            }
-        }
         if matches!(event, Event::Order(_, _) | Event::Report(_, _)) || !out.answers().is_empty() {
             self.queue.wake();
         }
@@ -221,7 +205,8 @@ impl<H: Files + Wait + Clock + Drop> StepObserver for EventForwarder<H> {
         self.tell_done(station, event, made);
     }
 
-    fn on_turn(&mut self) {
+    /// Ends a turn: wakes that thread, if it is to be woken.
+    pub(crate) fn end_turn(&mut self) {
         self.queue.end_turn();
     }
 }

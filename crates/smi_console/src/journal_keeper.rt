@@ -1,5 +1,8 @@
 //! The journal of a node, and who is told what becomes of it.
 
+ghost use Rattle.std.specs.Prelude.{◌≡◌};
+ghost use Rattle.smi_journal.specs.Noted.{NotesStep};
+
 use crate::threads::JournalWays;
 use crossbeam_channel::{Receiver, Sender, TryRecvError, bounded};
 use smi_journal::{Journal, JournalSetup, Noted, StationState, TypedLine};
@@ -9,6 +12,7 @@ use smi_tree::Tree;
 use std::alloc::{AllocError, Global};
 use std::fs::Files;
 use std::io;
+use std::marker::Model;
 use std::sync::{Arc, Wait};
 use std::thread::{Threads, sleep, spawn};
 use std::time::{Clock, Duration};
@@ -45,35 +49,63 @@ pub(crate) struct JournalKeeper<H: Files + Drop> {
     parts: Box<JournalKeeperParts<H>>,
 }
 
+impl<H: Files + Drop> Model for JournalKeeper<H> {
+    ghost use Rattle.std.specs.Prelude.{List};
+    ghost use Rattle.smi_journal.specs.declared.notes.Noting.{Noting};
+
+    ghost Value = { List Noting };
+
+    ghost view = { λ k. k.parts.value.journal.notings };
+}
+
+/// Hands the path of a file that was begun to the thread that syncs it.
+fn hand_begun<H: Files + Wait + Clock + Drop>(
+    rt: &H,
+    journal: &mut Journal<H>,
+    begun: &Sender<String>,
+)
+    ensures { journal.new ≡ journal.old }
+{
+    if let Some(path) = journal.take_begun() {
+        let _ = begun.try_send(rt, path);
+    }
+}
+
+/// Hands on what was typed at the consoles.
+fn take_typed<H: Files + Wait + Clock + Drop>(
+    rt: &H,
+    journal: &mut Journal<H>,
+    lines: &Receiver<TypedLine>,
+)
+    ensures { journal.new ≡ journal.old }
+{
+    for _ in 0..TYPED {
+        match lines.try_recv(rt) {
+            Ok(typed) => journal.note_typed(typed),
+            Err(_) => return,
+        }
+    }
+}
+
 impl<H: Files + Wait + Clock + Drop> JournalKeeper<H> {
-    /// Hands the path of a file that was begun to the thread that syncs it.
-    fn hand_begun(&mut self) {
-        let parts = &mut *self.parts;
-        if let Some(path) = parts.journal.take_begun() {
-            let _ = parts.begun.try_send(&parts.rt, path);
-        }
-    }
-
-    /// Hands on what was typed at the consoles.
-    fn take_typed(&mut self) {
-        let parts = &mut *self.parts;
-        for _ in 0..TYPED {
-            match parts.ways.typed.try_recv(&parts.rt) {
-                Ok(typed) => parts.journal.note_typed(typed),
-                Err(_) => return,
-            }
-        }
-    }
-
-    /// Notes a step in the journal. Returns whether that brought news for the thread of the sessions.
-    pub(crate) fn note<T: StationState>(&mut self, station: &T, out: &Out) -> bool {
-        self.take_typed();
-        let noted = self.parts.journal.note(station, out);
-        self.hand_begun();
+    /// Notes a step in the journal, after what was typed before it. Returns whether that brought news for the thread of
+    /// the sessions.
+    pub(crate) fn note<T: StationState>(&mut self, station: &T, out: &Out) -> bool
+        ensures { NotesStep out.now self.old self.new }
+    {
+        let JournalKeeperParts {
+            rt,
+            journal,
+            ways,
+            begun,
+        } = &mut *self.parts;
+        take_typed(rt, journal, &ways.typed);
+        let noted = journal.note(station, out);
+        hand_begun(rt, journal, begun);
         match noted {
             Noted::Written | Noted::Failing => false,
             Noted::Failed | Noted::Resumed(_) => {
-                let _ = self.parts.ways.news.try_send(&self.parts.rt, noted);
+                let _ = ways.news.try_send(rt, noted);
                 true
             }
         }
@@ -131,18 +163,18 @@ pub(crate) fn begin_journal<
     ways: KeeperWays,
 ) -> io::Result<JournalKeeper<H>> {
     let (tree, setup) = (Arc::try_clone(tree)?, Arc::try_clone(setup)?);
-    let journal = Journal::begin(rt.alloc(), rt.clone()?, tree, setup, station)?;
+    let mut journal = Journal::begin(rt.alloc(), rt.clone()?, tree, setup, station)?;
+    let begun = begin_syncing(rt)?;
+    hand_begun(rt, &mut journal, &begun);
     let parts = JournalKeeperParts {
         rt: rt.clone()?,
         journal,
         ways,
-        begun: begin_syncing(rt)?,
+        begun,
     };
-    let mut keeper = JournalKeeper {
+    Ok(JournalKeeper {
         parts: boxed(rt.alloc(), parts)?,
-    };
-    keeper.hand_begun();
-    Ok(keeper)
+    })
 }
 
 /// Makes the ways between the journal of a node, if it is to have one, and the thread of the sessions.

@@ -12,12 +12,14 @@
 //! (`console_loop`, over `smi_session`): it hears the standard input and the connections (`connection_set`,
 //! `connection`) that come in at the listeners (`listener`), and tells each what it asked for. It waits for all of them
 //! at once, for none of them alone, and is woken by the thread that serves (`console_waker`) once a turn has brought
-//! an answer, a state or an action: the node's observer forwards them (`event_forwarder`, `event_queue`). Orders that
+//! an answer, a state or an action: the node's observer forwards them (`node_observer`, `event_forwarder`). Orders that
 //! were given are followed by a datagram to the node's own socket, an empty one that every station refuses, so that a
 //! station at rest looks at its seats at once (`station_waker`).
 //!
-//! A node that has a journal notes each step in it, before anything of the step is sent (`journal_keeper`); a fourth
-//! thread syncs its files once a second.
+//! A node that has a journal notes each step in it, before anything of the step is sent (`node_observer`,
+//! `journal_keeper`); a fourth thread syncs its files once a second. What it noted is what each step handed out, in
+//! order: `Serves` says so of every observer that notes, and this one notes by the list of its journal, which
+//! `smi_journal` ties to the bytes of the file.
 //!
 //! The lines, the statuses and what is printed are in docs/FORMATS.md, "A node's lines".
 //!
@@ -51,6 +53,7 @@ mod listener;
 mod log_timer;
 mod node;
 mod node_io;
+mod node_observer;
 mod peers;
 mod setup;
 mod socket_drops;

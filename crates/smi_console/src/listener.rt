@@ -19,12 +19,18 @@ const ASKED_EACH: i32 = 10;
 
 const MOST_UNANSWERED: i32 = 3;
 
+/// After how many milliseconds the system ends a TCP connection whose other side has not confirmed what was sent to it:
+/// the same minute. While bytes are on their way the system sends them again and asks no question.
+const MOST_UNCONFIRMED: i32 = 60_000;
+
 /// The options of TCP that say so, by their numbers in Linux.
 const TCP_KEEPIDLE: i32 = 4;
 
 const TCP_KEEPINTVL: i32 = 5;
 
 const TCP_KEEPCNT: i32 = 6;
+
+const TCP_USER_TIMEOUT: i32 = 18;
 
 /// The address at which a node listens for consoles.
 #[derive(Drop)]
@@ -79,13 +85,15 @@ fn set_option(socket: RawFd, level: i32, name: i32, value: i32)
     let _ = unsafe { net::setsockopt(socket, level, name, &bytes, 4) };
 }
 
-/// Has the system end a connection whose other side is gone without a word, as a machine is that lost its power.
+/// Has the system end a connection whose other side is gone without a word, as a machine is that lost its power: a
+/// minute after it was heard last, whether or not bytes are on their way to it.
 fn keep_alive(stream: &TcpStream) {
     let socket = stream.as_raw_fd();
     set_option(socket, net::SOL_SOCKET, net::SO_KEEPALIVE, 1);
     set_option(socket, net::IPPROTO_TCP, TCP_KEEPIDLE, ASKED_AFTER);
     set_option(socket, net::IPPROTO_TCP, TCP_KEEPINTVL, ASKED_EACH);
     set_option(socket, net::IPPROTO_TCP, TCP_KEEPCNT, MOST_UNANSWERED);
+    set_option(socket, net::IPPROTO_TCP, TCP_USER_TIMEOUT, MOST_UNCONFIRMED);
 }
 
 impl ListenSocket {

@@ -8,9 +8,10 @@ use crate::console_waker::ConsoleWaker;
 use crate::event_forwarder::EventForwarder;
 use crate::event_queue::{EventQueue, StationNews};
 use crate::exit::StartError;
-use crate::journal_keeper::{KeeperWays, begin_journal, journal_ways};
+use crate::journal_keeper::{JournalKeeper, KeeperWays, begin_journal, journal_ways};
 use crate::node::NodeSetup;
 use crate::node_io::NodeIo;
+use crate::node_observer::NodeObserver;
 use crate::peers::{Linking, UdpLinking};
 use crate::station_loop::StationLoop;
 use crate::station_waker::StationWaker;
@@ -206,8 +207,8 @@ fn forwarder_of<T: StationState, H: Files + Wait + Clock + AllocGlobal + Clone +
     EventForwarder::new(rt.alloc(), tree, station, queue)
 }
 
-/// Begins the journal of a node, if it is to have one, before its observer.
-fn keep_journal<
+/// Begins the journal of a node, if it is to have one.
+fn journal_of<
     T: StationState,
     H: Files + Wait + Threads + Clock + AllocGlobal + Clone + Drop + Send + 'static,
 >(
@@ -215,16 +216,12 @@ fn keep_journal<
     setup: &NodeSetup,
     station: &T,
     ways: KeeperWays,
-    forwarder: &mut EventForwarder<H>,
-) -> Result<(), StartError> {
+) -> Result<Option<JournalKeeper<H>>, StartError> {
     let Some(journal) = &setup.journal else {
-        return Ok(());
+        return Ok(None);
     };
     match begin_journal(rt, &setup.tree, journal, station, ways) {
-        Ok(keeper) => {
-            forwarder.keep_journal(keeper);
-            Ok(())
-        }
+        Ok(keeper) => Ok(Some(keeper)),
         Err(e) if e.kind() == ErrorKind::OutOfMemory => Err(StartError::Memory),
         Err(_) => Err(StartError::Journal),
     }
@@ -246,7 +243,7 @@ fn start_node<
     glance: G,
     linking: &K,
     console: Console<I, O, E>,
-) -> Result<StationLoop<K::Link, EventForwarder<H>>, StartError> {
+) -> Result<StationLoop<K::Link, NodeObserver<H>>, StartError> {
     let node_parts = build_node(rt, setup, station.operators(), glance, linking)?;
     let NodeParts {
         node_io,
@@ -255,9 +252,10 @@ fn start_node<
         journal_ways,
     } = node_parts;
     let news = begin_console(rt, setup, parts, &waker, console)?;
-    let mut forwarder = forwarder_of(rt, setup, station, &waker, news)?;
-    keep_journal(rt, setup, station, journal_ways, &mut forwarder)?;
-    Ok(node_io.into_service(rt.alloc(), forwarder)?)
+    let forwarder = forwarder_of(rt, setup, station, &waker, news)?;
+    let journal = journal_of(rt, setup, station, journal_ways)?;
+    let observer = NodeObserver::new(journal, forwarder);
+    Ok(node_io.into_service(rt.alloc(), observer)?)
 }
 
 /// Returns the only one of these glances.
@@ -267,7 +265,7 @@ fn only<G: Drop>(glances: Vec<G>) -> Result<G, StartError> {
 }
 
 /// What a station is served with by a node.
-pub(crate) type NodeService<'a, H> = StationLoop<UdpLink<&'a H>, EventForwarder<H>>;
+pub(crate) type NodeService<'a, H> = StationLoop<UdpLink<&'a H>, NodeObserver<H>>;
 
 /// Returns what an open station is served with by a node whose sessions have the only one of these glances: its seats,
 /// its link, and the threads of its consoles, in this order.

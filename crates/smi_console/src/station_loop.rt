@@ -73,10 +73,10 @@ fn served<
         (serving S.is_honest S.is_open S.rows S.may_find S.saves S.failures S.doubts node.old.operators.now) turns
         (carried.node node.old.station.now (carried.edges
         (shown_by L.received L.handed L.failures L.receives link.old) node.old.desk.now node.old.board.now)
-        (V.told observer.old))
+        (V.seen observer.old))
         (carried.node node.new.station.now (carried.edges
         (shown_by L.received L.handed L.failures L.receives link.new) node.new.desk.now node.new.board.now)
-        (V.told observer.new)) result }
+        (V.seen observer.new)) result }
     ensures station { node.new.station.ghost_name ≡ node.old.station.ghost_name }
     ensures desk { node.new.desk.ghost_name ≡ node.old.desk.ghost_name }
     ensures board { node.new.board.ghost_name ≡ node.old.board.ghost_name }
@@ -140,9 +140,9 @@ fn serve_parts<
         (serving S.is_honest S.is_open S.rows S.may_find S.saves S.failures S.doubts plan.entry.operators.now)
         plan.entry.turns
         (carried.node station.old (carried.edges (shown_by L.received L.handed L.failures L.receives link.old) desk.old
-        board.old) (V.told observer.old))
+        board.old) (V.seen observer.old))
         (carried.node station.new (carried.edges (shown_by L.received L.handed L.failures L.receives link.new) desk.new
-        board.new) (V.told observer.new)) result }
+        board.new) (V.seen observer.new)) result }
 {
     let mut out = Out::new();
     let mut node = Node {

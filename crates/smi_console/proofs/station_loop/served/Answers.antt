@@ -15,11 +15,11 @@ loop-preserved g c =
     let shows = shown_by g.L.DatagramLink.received g.L.DatagramLink.handed g.L.DatagramLink.failures
     g.L.DatagramLink.receives in
     let before : Node (Whole g.row.S.Denot) = node c.loop.node.station.now
-    (edges (shows c.loop.link) c.loop.node.desk.now c.loop.node.board.now) (g.V.StepObserver.told c.loop.observer) in
+    (edges (shows c.loop.link) c.loop.node.desk.now c.loop.node.board.now) (g.V.StepObserver.seen c.loop.observer) in
     let last = c.serve-in-loop.new.self in
     let after : Node (Whole g.row.S.Denot) = node last.station.now
     (edges (shows c.serve-in-loop.new.link) last.desk.now last.board.now)
-    (g.V.StepObserver.told c.serve-in-loop.new.observer) in
+    (g.V.StepObserver.seen c.serve-in-loop.new.observer) in
     record {
       serves = (
         suc c.loop.invariant.serves.0,
@@ -45,11 +45,11 @@ returns-in-Err-clause-serves g c =
     let shows = shown_by g.L.DatagramLink.received g.L.DatagramLink.handed g.L.DatagramLink.failures
     g.L.DatagramLink.receives in
     let before : Node (Whole g.row.S.Denot) = node c.loop.node.station.now
-    (edges (shows c.loop.link) c.loop.node.desk.now c.loop.node.board.now) (g.V.StepObserver.told c.loop.observer) in
+    (edges (shows c.loop.link) c.loop.node.desk.now c.loop.node.board.now) (g.V.StepObserver.seen c.loop.observer) in
     let last = c.serve-in-loop.new.self in
     let after : Node (Whole g.row.S.Denot) = node last.station.now
     (edges (shows c.serve-in-loop.new.link) last.desk.now last.board.now)
-    (g.V.StepObserver.told c.serve-in-loop.new.observer) in
+    (g.V.StepObserver.seen c.serve-in-loop.new.observer) in
     rw c.in-Endless.is (
       c.loop.invariant.serves.0,
       before,

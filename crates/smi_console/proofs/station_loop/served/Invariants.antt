@@ -16,9 +16,9 @@ invariant-loop g l =
           × ServesOn (serving {S = g.row.S.Denot} s.is_honest s.is_open s.rows s.may_find s.saves s.failures s.doubts
           first.operators.now) times
           (node first.station.now (edges (shows l.initial.link) first.desk.now first.board.now)
-          (g.V.StepObserver.told l.initial.observer))
+          (g.V.StepObserver.seen l.initial.observer))
           (node l.node.station.now (edges (shows l.link) l.node.desk.now l.node.board.now)
-          (g.V.StepObserver.told l.observer));
+          (g.V.StepObserver.seen l.observer));
       station : l.node.station.ghost_name ≡ first.station.ghost_name;
       desk : l.node.desk.ghost_name ≡ first.desk.ghost_name;
       board : l.node.board.ghost_name ≡ first.board.ghost_name;
