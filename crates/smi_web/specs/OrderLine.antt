@@ -1,6 +1,6 @@
--- Which lines are orders.
-use Rattle.std.specs.Prelude.{ℕ, nat_le, ◌&&◌, ◌||◌, Bool, true, false, List, length, codes}
-use Rattle.std.specs.Prelude.{Option, Some, None, Result, Ok, Err}
+-- Which lines are orders, and who has given them.
+use Rattle.std.specs.Prelude.{ℕ, nat_le, ◌-◌, ◌==◌, ◌&&◌, ◌||◌, not, Bool, true, false, List, length, take, drop}
+use Rattle.std.specs.Prelude.{Option, Some, None, is_some, position, Result, Ok, Err, codes}
 use Rattle.std.specs.List.{list_all}
 use Rattle.std.specs.Option.{option_map_or}
 use Rattle.smi_tree.specs.Hierarchy.{Hierarchy}
@@ -35,7 +35,30 @@ is_number text = nat_le 1 (length text) && (nat_le (length text) 16 && list_all 
 abbrev pub is_withdrawal : List ℕ → Bool
 is_withdrawal line = option_map_or is_number (rest_of (codes "withdraw ") line) false
 
--- one plain line: an order of an operator of the tree as schedules and consoles have it, or a line that withdraws an
--- order
+-- the place of the first `#`, which no order has
+abbrev pub mark_in : List ℕ → Option ℕ
+mark_in line = position (λ byte. byte == 35) line
+
+-- what ends one byte before the first `#`: the whole line, if it has none
+abbrev pub order_in : List ℕ → List ℕ
+order_in line = option_map_or (λ place. take (place - 1) line) (mark_in line) line
+
+-- what follows ` # ` after the order
+abbrev pub name_in : List ℕ → Option (List ℕ)
+name_in line = rest_of (codes " # ") (drop (length (order_in line)) line)
+
+-- 1 to 32 bytes without `#`
+abbrev pub is_name : List ℕ → Bool
+is_name text = nat_le 1 (length text) && (nat_le (length text) 32 && not (is_some (mark_in text)))
+
+-- after the order comes a name, or there is no `#`
+abbrev pub ends_well : List ℕ → Bool
+ends_well line = option_map_or is_name (name_in line) (not (is_some (mark_in line)))
+
+-- an order of an operator of the tree as schedules and consoles have it, or what withdraws an order
+abbrev pub is_order_alone : Hierarchy → List ℕ → Bool
+is_order_alone h order = is_withdrawal order || is_order (item_in h order)
+
+-- one plain line: an order, and maybe after it who has given it
 abbrev pub is_order_line : Hierarchy → List ℕ → Bool
-is_order_line h line = list_all is_plain line && (is_withdrawal line || is_order (item_in h line))
+is_order_line h line = list_all is_plain line && (ends_well line && is_order_alone h (order_in line))

@@ -28,9 +28,14 @@ unfoldable pub answer_text : List ℕ → Option Reply → List ℕ
 answer_text line None = codes ",\"answer\":null,\"code\":null,\"words\":null"
 answer_text line (Some answer) = codes ",\"answer\":" ++ quoted answer.text ++ code_text (code_of line answer.text)
 
--- an order, and its number
+-- who has given an order, if that is known
+unfoldable pub by_text : Option (List ℕ) → List ℕ
+by_text None = codes ",\"by\":null"
+by_text (Some name) = codes ",\"by\":" ++ quoted name
+
+-- an order, its number, and who has given it
 unfoldable pub given_text : RelayedOrder → List ℕ
-given_text e = codes "{\"number\":" ++ decimal e.number ++ codes ",\"line\":" ++ quoted e.line
+given_text e = codes "{\"number\":" ++ decimal e.number ++ codes ",\"line\":" ++ quoted e.line ++ by_text e.name
 
 -- for how many seconds it waited or waits, and whether it does
 unfoldable pub waiting_text : ℕ → Bool → List ℕ

@@ -1,22 +1,36 @@
 -- An order that was given from a page, and what became of it.
 use Rattle.std.specs.Prelude.{ℕ, nat_le, ◌==◌, ◌&&◌, not, ◌++◌, Bool, List, drop, length, codes, Some, None}
-use Rattle.std.specs.Prelude.{is_some, if◌then◌else◌}
+use Rattle.std.specs.Prelude.{[], Option, is_some, if◌then◌else◌}
 use Rattle.std.specs.Fmt.{decimal}
 use Rattle.std.specs.List.{list_all, starts_with}
 use Rattle.smi_web.specs.declared.relayed_order.Reply.{Reply}
 use Rattle.smi_web.specs.declared.relayed_order.RelayedOrder.{RelayedOrder}
+use Rattle.smi_web.specs.OrderLine.{name_in, order_in}
 use Rattle.smi_history.specs.Text.{is_plain}
 
 -- a tag of its own for each number
 abbrev pub tag_of : ℕ → List ℕ
 tag_of number = codes "@" ++ decimal number ++ codes " "
 
+-- a line is an order, and maybe who has given it
 abbrev pub order_of : (number : ℕ) → List ℕ → (now : ℕ) → RelayedOrder
-order_of number line now = record { number = number; tag = tag_of number; line = line; given = now; answer = None }
+order_of number line now = record {
+  number = number;
+  tag = tag_of number;
+  line = order_in line;
+  name = name_in line;
+  given = now;
+  answer = None;
+}
 
--- what is sent of an order: its tag, its line, and the end of the line
+-- a remark that says who has given the order with this tag, if a name is known
+unfoldable pub remark_of : List ℕ → Option (List ℕ) → List ℕ
+remark_of tag None = []
+remark_of tag (Some name) = codes "# " ++ tag ++ codes "name " ++ name ++ codes "\n"
+
+-- what is sent of an order: the remark, and then in a line its tag and the order
 abbrev pub sent_of : RelayedOrder → List ℕ
-sent_of e = e.tag ++ e.line ++ codes "\n"
+sent_of e = remark_of e.tag e.name ++ e.tag ++ e.line ++ codes "\n"
 
 -- no answer has come, and the connection is still the one on which it was given
 abbrev pub is_waiting : ℕ → RelayedOrder → Bool

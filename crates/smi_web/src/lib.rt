@@ -7,11 +7,12 @@
 //!   that comes from the page itself, which shows the key that is in it, is given to the relay.
 //! - [`OrderRelay`] takes the orders of a page to a node's console, and their answers back. An order that is given
 //!   becomes a [`RelayedOrder`], and its line follows a tag of its own among the bytes that are to be sent
-//!   ([`OrderRelay::unsent`]). A line of the console answers the order whose tag it begins with
-//!   ([`OrderRelay::receive_line`]). If the connection ends, answers that have not come are lost, and what was not sent
-//!   is not sent later ([`OrderRelay::close`]), so that nobody is commanded by an order of long ago.
-//!   [`OrderRelay::admission`] says beforehand whether an order may be given. The relay also asks the console in which
-//!   mode each child is ([`OrderRelay::ask_modes`]), and keeps its last whole answer ([`OrderRelay::modes`]).
+//!   ([`OrderRelay::unsent`]). If it came with the name of who gives it, a remark that tells the name is before its
+//!   line. A line of the console answers the order whose tag it begins with ([`OrderRelay::receive_line`]). If the
+//!   connection ends, answers that have not come are lost, and what was not sent is not sent later
+//!   ([`OrderRelay::close`]), so that nobody is commanded by an order of long ago. [`OrderRelay::admission`] says
+//!   beforehand whether an order may be given. The relay also asks the console in which mode each child is
+//!   ([`OrderRelay::ask_modes`]), and keeps its last whole answer ([`OrderRelay::modes`]).
 //! - [`Acknowledgements`] has the alarms that somebody has acknowledged on a page, who, and when.
 //! - [`write_tree`], [`write_picture`], [`write_changes`], [`write_orders`] and [`write_metrics`] write JSON, and
 //!   Prometheus' text format. The names of a tree have letters, digits and `_` alone, and a relay keeps plain text, so

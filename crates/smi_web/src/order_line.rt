@@ -1,6 +1,6 @@
-//! Tests whether a line is an order.
+//! Tests whether a line is an order, and finds who has given it.
 
-ghost use Rattle.std.specs.Prelude.{◌≡◌};
+ghost use Rattle.std.specs.Prelude.{◌≡◌, ◌≤◌, ◌<◌, length, IfSome, option_map};
 ghost use Rattle.std.specs.List.{list_all};
 ghost use Rattle.smi_web.specs.OrderLine as spec;
 
@@ -11,6 +11,9 @@ use smi_tree::{Fault, Tree};
 
 /// The most digits of an order's number, because a tag has at most sixteen bytes at the console.
 const MOST_DIGITS: usize = 16;
+
+/// The most bytes of a name.
+const MOST_IN_A_NAME: usize = 32;
 
 /// Returns true if a byte is a decimal digit.
 fn is_digit(byte: u8) -> bool
@@ -50,10 +53,61 @@ fn is_withdrawal(line: &[u8]) -> bool
     }
 }
 
-/// Returns true if a line is an order of an operator of the tree, as a node's console takes it, or withdraws an order;
-/// and if it is one line of plain text.
+/// Returns the place of the first `#` of a text.
+fn mark_in(text: &[u8]) -> Option<usize>
+    ensures place { result ≡ spec.mark_in text.now }
+    ensures within { IfSome result (λ i. i < length text.now) }
+{
+    text.iter().position(|byte| *byte == b'#')
+}
+
+/// Returns the order in a line, without who has given it.
+pub(crate) fn order_in(line: &[u8]) -> &[u8]
+    ensures order { result.now ≡ spec.order_in line.now }
+    ensures within { length result.now ≤ length line.now }
+{
+    match mark_in(line) {
+        Some(place) => &line[..place.saturating_sub(1)],
+        None => line,
+    }
+}
+
+/// Returns who has given the order in a line: what follows ` # ` after it.
+pub(crate) fn name_in(line: &[u8]) -> Option<&[u8]>
+    ensures { option_map (λ name. name.now) result ≡ spec.name_in line.now }
+{
+    let behind = &line[order_in(line).len()..];
+    rest_of(b" # ", behind)
+}
+
+/// Returns true if a text is a name: 1 to 32 bytes without `#`.
+fn is_name(text: &[u8]) -> bool
+    ensures { result ≡ spec.is_name text.now }
+{
+    1 <= text.len() && text.len() <= MOST_IN_A_NAME && mark_in(text).is_none()
+}
+
+/// Returns true if a name follows the order in a line, or nothing does.
+fn ends_well(line: &[u8]) -> bool
+    ensures { result ≡ spec.ends_well line.now }
+{
+    match name_in(line) {
+        Some(name) => is_name(name),
+        None => mark_in(line).is_none(),
+    }
+}
+
+/// Returns true if a text is an order of an operator of the tree, as a node's console takes it, or withdraws one.
+fn is_order_alone(tree: &Tree, order: &[u8]) -> bool
+    ensures { result ≡ spec.is_order_alone tree.now order.now }
+{
+    is_withdrawal(order) || is_order(read_item(tree, order))
+}
+
+/// Returns true if a line is an order of an operator of the tree, as a node's console takes it, or withdraws an order,
+/// and then maybe ` # ` and a name; and if it is one line of plain text.
 pub fn is_order_line(tree: &Tree, line: &[u8]) -> bool
     ensures { result ≡ spec.is_order_line tree.now line.now }
 {
-    is_all_plain(line) && (is_withdrawal(line) || is_order(read_item(tree, line)))
+    is_all_plain(line) && ends_well(line) && is_order_alone(tree, order_in(line))
 }

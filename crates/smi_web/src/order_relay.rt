@@ -175,7 +175,8 @@ impl OrderRelay {
     }
 
     /// Gives an order now, if there is room: it is one order more, and its line, after its tag, the last that is
-    /// to be sent. If there is no room nothing changes.
+    /// to be sent. If a name follows the order in the line, a remark that tells it is sent before. If there is no room
+    /// nothing changes.
     ///
     /// It fails only if memory ran out, which tests alone see, and changes nothing then.
     pub fn give(&mut self, line: &[u8], now: u64) -> Result<(), AllocError>

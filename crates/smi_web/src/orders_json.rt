@@ -9,6 +9,7 @@ ghost use Rattle.smi_web.specs.OrdersJson.{
   alarm_text,
   alarms_text,
   answer_text,
+  by_text,
   code_text,
   end_of,
   errand_text,
@@ -76,13 +77,25 @@ fn put_answer(text: &mut Vec<u8>, line: &[u8], answer: &Option<Reply>) -> Result
     }
 }
 
-/// Writes an order, and its number.
+/// Writes who has given an order.
+#[tactic(auto, unfolding(crate::specs::OrdersJson::by_text))]
+fn put_by(text: &mut Vec<u8>, name: &Option<Bytes>) -> Result<(), AllocError>
+    ensures { OnOk result (text.new.items ≡ text.old.items ++ by_text name.now) }
+{
+    match name {
+        Some(name) => put_text(text, b",\"by\":", name.as_slice()),
+        None => put(text, b",\"by\":null"),
+    }
+}
+
+/// Writes an order, its number, and who has given it.
 #[tactic(auto, unfolding(crate::specs::OrdersJson::given_text))]
 fn put_given(text: &mut Vec<u8>, order: &RelayedOrder) -> Result<(), AllocError>
     ensures { OnOk result (text.new.items ≡ text.old.items ++ given_text order.now) }
 {
     put_number(text, b"{\"number\":", order.number)?;
-    put_text(text, b",\"line\":", order.line.as_slice())
+    put_text(text, b",\"line\":", order.line.as_slice())?;
+    put_by(text, &order.name)
 }
 
 /// Writes for how long it waited or waits, and whether it does.

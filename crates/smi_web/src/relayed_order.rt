@@ -1,10 +1,11 @@
 //! An order that was given from a page, and what became of it.
 
-ghost use Rattle.std.specs.Prelude.{◌≡◌, drop, IfOk};
+ghost use Rattle.std.specs.Prelude.{◌≡◌, ◌++◌, drop, IfOk, OnOk, option_map};
 ghost use Rattle.smi_web.specs.RelayedOrder as spec;
 
+use crate::order_line::{name_in, order_in};
 use bytes::Bytes;
-use smi_history::{is_all_plain, shared};
+use smi_history::{is_all_plain, put, shared};
 use std::alloc::{AllocError, Global};
 use std::io::Write;
 
@@ -15,8 +16,10 @@ pub struct RelayedOrder {
     pub number: u64,
     /// The tag with which its line begins, and so does its answer.
     pub tag: Bytes,
-    /// The order, as it was given.
+    /// The order, as it was given, without the name.
     pub line: Bytes,
+    /// Who has given it, if the page said so.
+    pub name: Option<Bytes>,
     /// When it was given, in milliseconds.
     pub given: u64,
     pub answer: Option<Reply>,
@@ -37,6 +40,33 @@ fn tag_of(alloc: Global, number: u64) -> Result<Bytes, AllocError>
     write!(text, "{number}").map_err(|_| AllocError)?;
     text.extend_from_slice(b" ")?;
     shared(text)
+}
+
+/// Returns a copy of a name, if there is one.
+fn copied(alloc: Global, name: Option<&[u8]>) -> Result<Option<Bytes>, AllocError>
+    ensures { IfOk result (λ copy. copy ≡ option_map (λ n. n.now) name.entry) }
+{
+    match name {
+        Some(name) => Ok(Some(shared(Vec::from_slice(alloc, name)?)?)),
+        None => Ok(None),
+    }
+}
+
+/// Writes the remark that says who has given the order with a tag, if that is known.
+#[tactic(auto, unfolding(crate::specs::RelayedOrder::remark_of))]
+fn put_remark(text: &mut Vec<u8>, tag: &[u8], name: &Option<Bytes>) -> Result<(), AllocError>
+    ensures { OnOk result (text.new.items ≡ text.old.items ++ spec.remark_of tag.now name.now) }
+{
+    match name {
+        Some(name) => {
+            put(text, b"# ")?;
+            put(text, tag)?;
+            put(text, b"name ")?;
+            put(text, name.as_slice())?;
+            put(text, b"\n")
+        }
+        None => Ok(()),
+    }
 }
 
 /// Returns what the console said, if it is plain text.
@@ -61,7 +91,7 @@ impl RelayedOrder {
     ghost use Rattle.std.specs.Prelude.{◌≡◌, IfOk};
     ghost use Rattle.smi_web.specs.RelayedOrder as spec;
 
-    /// Returns the order of this number, whose order was given now.
+    /// Returns the order of this number, whose line was given now.
     pub(crate) fn new(
         alloc: Global,
         number: u64,
@@ -73,7 +103,8 @@ impl RelayedOrder {
         Ok(RelayedOrder {
             number,
             tag: tag_of(alloc, number)?,
-            line: shared(Vec::from_slice(alloc, line)?)?,
+            line: shared(Vec::from_slice(alloc, order_in(line))?)?,
+            name: copied(alloc, name_in(line))?,
             given: now,
             answer: None,
         })
@@ -83,9 +114,11 @@ impl RelayedOrder {
     pub(crate) fn sent(&self, alloc: Global) -> Result<Vec<u8>, AllocError>
         ensures { IfOk result (λ text. text.items ≡ spec.sent_of self.now) }
     {
-        let mut text = Vec::from_slice(alloc, self.tag.as_slice())?;
-        text.extend_from_slice(self.line.as_slice())?;
-        text.extend_from_slice(b"\n")?;
+        let mut text = Vec::new(alloc);
+        put_remark(&mut text, self.tag.as_slice(), &self.name)?;
+        put(&mut text, self.tag.as_slice())?;
+        put(&mut text, self.line.as_slice())?;
+        put(&mut text, b"\n")?;
         Ok(text)
     }
 
