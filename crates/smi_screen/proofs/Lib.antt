@@ -3,3 +3,4 @@ pub mod Carries
 pub mod Keeping
 pub mod Looks
 pub mod Turned
+pub mod Turns

@@ -30,3 +30,16 @@ after_faults faults = if nat_lt faults most_faults then Ok tt else Err ended.Lin
 -- The time of a turn never goes back. It is that of the clock, in milliseconds, as far as a number of 64 bits counts.
 abbrev pub time_at : (now passed : ℕ) → ℕ
 time_at now passed = if nat_lt passed 18446744073709551616 then max now passed else now
+
+-- all its turns were made, or it ended with a fault
+abbrev pub end_of : Result (Unit {0}) Ended → Ended
+end_of (Ok u) = ended.Turns
+end_of (Err e) = e
+
+-- a fault that may come before the first turn of a station that is open and has an operator
+abbrev pub IsOfStart : Ended → Type 0
+IsOfStart ended.Memory = Unit {0}
+IsOfStart ended.Link = Unit {0}
+IsOfStart ended.Listener = Unit {0}
+IsOfStart ended.History = Unit {0}
+IsOfStart _ = ⊥

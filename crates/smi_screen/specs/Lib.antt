@@ -4,4 +4,6 @@ pub mod HttpConnection
 pub mod HttpListener
 pub mod Looking
 pub mod Noting
+pub mod Running
 pub mod Schedule
+pub mod Turning

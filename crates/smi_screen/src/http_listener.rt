@@ -22,7 +22,7 @@ const CONFIG: Config = Config {
         max_extensions_len: 64,
         max_trailers_len: 64,
     },
-    max_body_len: 64,
+    max_body_len: 100,
     max_pending: 0,
     read_size: 2_048,
 };

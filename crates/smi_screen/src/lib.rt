@@ -32,9 +32,12 @@
 //!
 //! What an observer works with is a `View`: its station, what its link shows, and its picture (`specs/Looking`). It
 //! is over any way to step (`Stepping`), so nothing here knows what a station is. A `Deed` is what an observer does,
-//! `Does` what it leaves, and `Looks` a list of them. What of an event is noted is in `specs/Noting`.
+//! `Does` what it leaves, and `Looks` a list of them. What of an event is noted is in `specs/Noting`. What whole turns
+//! do, and how many there are, is in `specs/Turning` (`LooksFor`), and what a screen does to its store in
+//! `specs/Running` (`RunsScreen`).
 //!
 //! - `proofs/Looks` puts deeds together: none, one, some and then others.
+//! - `proofs/Turns` puts whole turns together.
 //! - `proofs/Turned`: what a turn of the screen adds to its look is nothing that the station or the picture knows of.
 //! - `proofs/Keeping`: whatever an observer does, its picture keeps up with what was had in it (`looks_keep`,
 //!   `KeepsUp` of `smi_view`).

@@ -1,6 +1,9 @@
 //! Runs a screen.
 
-ghost use Rattle.std.specs.Prelude.{◌≡◌, IfOk};
+ghost use Rattle.std.specs.Prelude.{◌≡◌, IfErr, IfOk};
+ghost use Rattle.smi_node.specs.Carried.{StepsTo};
+ghost use Rattle.smi_screen.specs.Ending.{IsOfStart, end_of};
+ghost use Rattle.smi_screen.specs.Running.{LooksIfStarted, OpensAndLooks, RunsScreen, looker_of};
 
 use crate::console::ConsoleAddress;
 use crate::http_listener::HttpListener;
@@ -46,6 +49,11 @@ pub enum Ended {
 }
 
 impl From<AllocError> for Ended {
+    ghost use Rattle.std.specs.Prelude.{◌≡◌};
+    ghost use Rattle.smi_screen.specs.declared.screen.Ended.TheVariants as ended;
+
+    ghost from_gives = { λ _ e. e ≡ ended.Memory };
+
     fn from(_refused: AllocError) -> Ended {
         Ended::Memory
     }
@@ -89,7 +97,9 @@ pub struct ScreenSetup {
 }
 
 /// Returns why there is no socket or no file: out of memory, or this.
-pub(crate) fn error_of(error: io::Error, other: Ended) -> Ended {
+pub(crate) fn error_of(error: io::Error, other: Ended) -> Ended
+    ensures { IsOfStart other → IsOfStart result }
+{
     if error.kind() == ErrorKind::OutOfMemory {
         Ended::Memory
     } else {
@@ -103,7 +113,9 @@ fn listen<R: Net<Listener = TcpListener, Stream = TcpStream>>(
     alloc: Global,
     keys: RandomState,
     http: SocketAddr,
-) -> Result<HttpListener, Ended> {
+) -> Result<HttpListener, Ended>
+    ensures { IfErr result IsOfStart }
+{
     match HttpListener::open(rt, alloc, keys, http) {
         Ok(listener) => Ok(listener),
         Err(error) => Err(error_of(error, Ended::Listener)),
@@ -118,7 +130,9 @@ fn build_web_server<
     tree: &Tree,
     keys: RandomState,
     setup: &mut ScreenSetup,
-) -> Result<(Picture, Box<WebServer>), Ended> {
+) -> Result<(Picture, Box<WebServer>), Ended>
+    ensures { IfErr result IsOfStart }
+{
     let alloc = rt.alloc();
     let parts = build_parts(rt, tree, setup)?;
     let listener = listen(rt, alloc, keys, setup.http)?;
@@ -146,7 +160,10 @@ fn build_server<
     operator: u16,
     keys: RandomState,
     setup: &mut ScreenSetup,
-) -> Result<Box<ScreenServer>, Ended> {
+) -> Result<Box<ScreenServer>, Ended>
+    ensures operator { IfOk result (λ server. server.value.operator ≡ operator) }
+    ensures fault { IfErr result IsOfStart }
+{
     let Ok(start) = Instant::now(rt) else {
         return Err(Ended::Listener);
     };
@@ -164,7 +181,8 @@ fn open_link<'a, R: Net + Clock + AllocGlobal>(
     rt: &'a R,
     setup: &mut ScreenSetup,
 ) -> Result<UdpLink<&'a R>, Ended>
-    ensures { IfOk result (λ link. link.sources ≡ setup.old.sources) }
+    ensures sources { IfOk result (λ link. link.sources ≡ setup.old.sources) }
+    ensures fault { IfErr result IsOfStart }
 {
     let peers = replace(&mut setup.peers, Vec::new(rt.alloc()));
     match UdpLink::open(rt, rt, setup.station, peers) {
@@ -177,7 +195,14 @@ fn open_link<'a, R: Net + Clock + AllocGlobal>(
     }
 }
 
-/// Looks with a station that is open.
+/// Returns the operator in whose name a station looks: its first one, if it has any.
+fn first_operator<S: Stable>(station: &Station<'_, S>) -> Option<u16>
+    ensures { result ≡ looker_of station.now }
+{
+    station.operators().first().copied()
+}
+
+/// Looks with a station that is open: for this many turns, or without end.
 fn look_with_station<
     S: Stable,
     R: Net<Listener = TcpListener, Stream = TcpStream> + Wait + Clock + Files + AllocGlobal,
@@ -187,17 +212,23 @@ fn look_with_station<
     keys: RandomState,
     setup: &mut ScreenSetup,
     station: &mut Station<'_, S>,
-) -> Result<(), Ended> {
-    let Some(operator) = station.operators().first().copied() else {
+) -> Result<(), Ended>
+    ensures { LooksIfStarted (StepsTo S.is_honest S.is_open S.rows S.may_find S.saves S.failures S.doubts)
+        (looker_of station.old) setup.old.turns station.old station.new result }
+{
+    let Some(operator) = first_operator(station) else {
         return Err(Ended::NoOperator);
     };
+    let turns = setup.turns;
     let mut link = open_link(rt, setup)?;
     let mut server = build_server(rt, tree, operator, keys, setup)?;
-    server.serve(rt, tree, station, &mut link, setup.turns)
+    server.serve(rt, tree, station, &mut link, turns)
 }
 
 /// Returns how a screen ended.
-fn end_of(looked: Result<(), Ended>) -> Ended {
+fn end_of(looked: Result<(), Ended>) -> Ended
+    ensures { result ≡ end_of looked }
+{
     match looked {
         Ok(()) => Ended::Turns,
         Err(ended) => ended,
@@ -208,7 +239,10 @@ fn end_of(looked: Result<(), Ended>) -> Ended {
 fn open_and_look<
     S: Stable,
     R: Net<Listener = TcpListener, Stream = TcpStream> + Wait + Clock + Files + AllocGlobal,
->(rt: &R, tree: &Tree, keys: RandomState, setup: &mut ScreenSetup, store: S) -> (Ended, S) {
+>(rt: &R, tree: &Tree, keys: RandomState, setup: &mut ScreenSetup, store: S) -> (Ended, S)
+    ensures { OpensAndLooks S.is_honest S.is_open S.rows S.may_find S.saves S.failures S.doubts tree.now
+        setup.old.station setup.old.turns store result }
+{
     match Station::open(rt.alloc(), tree, setup.station, store) {
         Ok(station) => {
             let mut station = station;
@@ -224,10 +258,17 @@ fn open_and_look<
 /// The rows of its station are brought into their newest schema, the station is opened, its own socket is, then the
 /// file of its history, if it has one, and last the socket of its web server; then it looks, for this many turns or
 /// until a fault. Headers of requests are kept under these keys. What the setup has is taken out of it as it is needed.
+///
+/// Nothing but the opening of the station and what it does as an observer changes the store: it looks in the name of
+/// its first operator, and orders nothing but watches and questions. That it looks over its own socket, and what its
+/// web server answers over its own, no clause says: tests/screen_test.py sees that.
 pub fn run<
     S: Stable,
     R: Net<Listener = TcpListener, Stream = TcpStream> + Wait + Clock + Files + AllocGlobal,
->(rt: &R, tree: &Tree, keys: RandomState, setup: &mut ScreenSetup, store: S) -> (Ended, S) {
+>(rt: &R, tree: &Tree, keys: RandomState, setup: &mut ScreenSetup, store: S) -> (Ended, S)
+    ensures { RunsScreen S.is_honest S.is_open S.rows S.may_find S.saves S.failures S.doubts tree.now
+        setup.old.station setup.old.turns store result }
+{
     let mut store = store;
     match migrate(rt.alloc(), tree, setup.station, &mut store) {
         Ok(_) => open_and_look(rt, tree, keys, setup, store),

@@ -1,5 +1,8 @@
 //! The picture of a screen, the service over it, and the console for its orders.
 
+ghost use Rattle.std.specs.Prelude.{IfErr};
+ghost use Rattle.smi_screen.specs.Ending.{IsOfStart};
+
 use crate::console::NodeConsole;
 use crate::history_file::HistoryFile;
 use crate::screen::{Ended, OrderSetup, ScreenSetup, error_of};
@@ -36,7 +39,9 @@ fn kept_history<R: Clock + Files + AllocGlobal>(
     rt: &R,
     path: &Option<String>,
     days: Option<u64>,
-) -> Result<KeptHistory, Ended> {
+) -> Result<KeptHistory, Ended>
+    ensures { IfErr result IsOfStart }
+{
     let Some(path) = path else {
         let mut history = History::new(rt.alloc());
         history.keep_days(days.unwrap_or(USUAL_DAYS));
@@ -111,7 +116,9 @@ pub(crate) fn build_parts<R: Clock + Files + AllocGlobal>(
     rt: &R,
     tree: &Tree,
     setup: &mut ScreenSetup,
-) -> Result<Box<ScreenParts>, Ended> {
+) -> Result<Box<ScreenParts>, Ended>
+    ensures { IfErr result IsOfStart }
+{
     let alloc = rt.alloc();
     let kept = kept_history(rt, &setup.history, setup.history_days)?;
     let picture = Picture::new(alloc, tree.object_count(), tree.domain_count())?;

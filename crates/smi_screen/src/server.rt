@@ -1,10 +1,11 @@
 //! A screen without its station, and its turns.
 
-ghost use Rattle.std.specs.Prelude.{◌≡◌, false};
+ghost use Rattle.std.specs.Prelude.{◌≡◌, ◌<◌, false, Some};
 ghost use Rattle.smi_node.specs.Carried.{StepsTo};
 ghost use Rattle.smi_node.specs.Linked.{shown_by};
 ghost use Rattle.smi_screen.specs.Looking.{Looks, view};
 ghost use Rattle.smi_screen.specs.Ending.{after_faults, faults_after, has_stopped, time_at};
+ghost use Rattle.smi_screen.specs.Turning.{LooksFor};
 
 use crate::observer::{Observer, ReceiveOutcome};
 use crate::poll_schedule::PollSchedule;
@@ -68,7 +69,9 @@ impl ScreenServer {
         schedule: PollSchedule,
         picture: Picture,
         web_server: Box<WebServer>,
-    ) -> ScreenServer {
+    ) -> ScreenServer
+        ensures operator { result.operator ≡ operator }
+    {
         ScreenServer {
             operator,
             start,
@@ -115,6 +118,7 @@ impl ScreenServer {
             (view station.old (shown_by L.received L.handed L.failures L.receives link.old) self.old.observer.picture)
             (view station.new (shown_by L.received L.handed L.failures L.receives link.new) self.new.observer.picture)
             (has_stopped result) }
+        ensures asks { L.receives link.old < L.receives link.new }
         ensures operator { self.new.operator ≡ self.old.operator }
     {
         let operator = self.operator;
@@ -176,6 +180,7 @@ impl ScreenServer {
             (view station.old (shown_by L.received L.handed L.failures L.receives link.old) self.old.observer.picture)
             (view station.new (shown_by L.received L.handed L.failures L.receives link.new) self.new.observer.picture)
             (has_stopped result) }
+        ensures asks { L.receives link.old < L.receives link.new }
         ensures operator { self.new.operator ≡ self.old.operator }
     {
         self.tell_time(rt);
@@ -198,6 +203,11 @@ impl ScreenServer {
             (view station.old (shown_by L.received L.handed L.failures L.receives link.old) self.old.observer.picture)
             (view station.new (shown_by L.received L.handed L.failures L.receives link.new) self.new.observer.picture)
             (has_stopped result) }
+        ensures turns { LooksFor (StepsTo S.is_honest S.is_open S.rows S.may_find S.saves S.failures S.doubts)
+            self.old.operator (Some turns)
+            (view station.old (shown_by L.received L.handed L.failures L.receives link.old) self.old.observer.picture)
+            (view station.new (shown_by L.received L.handed L.failures L.receives link.new) self.new.observer.picture)
+            result }
         ensures operator { self.new.operator ≡ self.old.operator }
     {
         for _ in 0..turns {
@@ -218,10 +228,16 @@ impl ScreenServer {
         link: &mut L,
         turns: Option<u32>,
     ) -> Result<(), Ended>
-        ensures { Looks (StepsTo S.is_honest S.is_open S.rows S.may_find S.saves S.failures S.doubts) self.old.operator
+        ensures looks { Looks (StepsTo S.is_honest S.is_open S.rows S.may_find S.saves S.failures S.doubts)
+            self.old.operator
             (view station.old (shown_by L.received L.handed L.failures L.receives link.old) self.old.observer.picture)
             (view station.new (shown_by L.received L.handed L.failures L.receives link.new) self.new.observer.picture)
             (has_stopped result) }
+        ensures turns { LooksFor (StepsTo S.is_honest S.is_open S.rows S.may_find S.saves S.failures S.doubts)
+            self.old.operator turns
+            (view station.old (shown_by L.received L.handed L.failures L.receives link.old) self.old.observer.picture)
+            (view station.new (shown_by L.received L.handed L.failures L.receives link.new) self.new.observer.picture)
+            result }
     {
         let Some(turns) = turns else {
             for _ in rt.forever() {
