@@ -4,23 +4,19 @@
 #![tactic(auto)]
 
 use smi_commands::status::no_memory;
-use smi_program::{
-    fill_standard_places, program, tell_help, tell_path_fault, tell_tree_fault, words_of,
-};
+use smi_program::{LastLine, fill_standard_places, program, tell_help, tell_more, words_of};
 use std::io::IsTerminal;
 use std::process::ExitCode;
 
 fn main(rt: HostRuntime) -> ExitCode {
     fill_standard_places();
-    let mut faults = rt.stderr();
-    let is_terminal = faults.is_terminal();
+    let is_terminal = rt.stderr().is_terminal();
+    let mut faults = LastLine::new(rt.stderr());
     let status = match words_of(&rt) {
         Ok(words) => {
             let (reader, writer, aside) = (rt.reader(), rt.stdout(), rt.stderr());
             let status = program(&rt, &words, reader, writer, &mut faults, aside);
-            tell_tree_fault(&rt, &words, status, is_terminal, &mut faults);
-            tell_path_fault(&rt, &words, status, is_terminal, &mut faults);
-            status
+            tell_more(&rt, &words, status, is_terminal, &mut faults)
         }
         Err(_) => no_memory(&mut faults).code(),
     };

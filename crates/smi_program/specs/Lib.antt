@@ -1,4 +1,5 @@
 pub mod Ending
 pub mod Help
+pub mod Lasting
 pub mod Named
 pub mod Page

@@ -2,10 +2,10 @@
 //!
 //! [`words_of`] takes the words of a command line as the system has them, which need not be text, and [`line_of`]
 //! says what they ask for. [`program`] does that. At a terminal [`tell_help`] says after a wrong line where help is,
-//! [`tell_tree_fault`] after a tree file that was refused what is wrong with it, and [`tell_path_fault`] which path
-//! could not be read. A path is found again by the bytes
-//! of its word ([`bytes_of`]). What a command without stations does is proved in `smi_commands`; a node is run by
-//! `smi_console`, and a screen by `smi_screen`.
+//! and [`tell_more`], there and in a service, what is wrong with a tree file that was refused, and which path or
+//! address was in the way of what ended with a fault. [`LastLine`] knows the line that was told. A path is found again
+//! by the bytes of its word ([`bytes_of`]). What a command without stations does is proved in `smi_commands`; a node is
+//! run by `smi_console`, and a screen by `smi_screen`.
 //!
 //! [`simulating::sim`] runs a schedule that is read, [`simulating::sim_drawn`] one that is drawn. What they write is
 //! the text of the schedule's trace, which is safe at every moment (`stream` and `stream_drawn` of `smi_world`); what
@@ -19,19 +19,22 @@
 #![tactic(auto)]
 
 mod audit;
+mod cause;
+mod cause_search;
 mod commands;
 mod help;
+mod last_line;
 mod line;
 mod node;
 mod orders;
 mod page;
-mod path_words;
 mod reopened_file;
 mod screen;
 mod sim;
 pub mod simulating;
 mod standard_places;
 mod style;
+mod telling_more;
 mod token;
 mod tree;
 mod tree_words;
@@ -40,13 +43,13 @@ mod words;
 
 pub use commands::program;
 pub use help::tell_help;
+pub use last_line::LastLine;
 pub use line::{
     AuditLine, CommandLine, JournalOptions, NodeLine, Schedule, ScreenLine, SimLine, line_of,
 };
 pub use orders::ORDERS;
 pub use page::PAGE;
-pub use path_words::tell_path_fault;
 pub use standard_places::fill_standard_places;
-pub use tree_words::tell_tree_fault;
+pub use telling_more::{LASTING_FAULT, tell_more};
 pub use with_orders::{page_bytes, page_with_orders, page_with_style};
 pub use words::{Words, bytes_after, bytes_of, words_of};

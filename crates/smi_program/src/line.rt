@@ -100,6 +100,8 @@ pub struct NodeLine<'a> {
     pub journal: Option<JournalOptions<'a>>,
     /// From where its datagrams have to come.
     pub sources: Sources,
+    /// Whether it runs as a service, whose standard error people read as its journal.
+    pub is_service: bool,
 }
 
 /// A screen: the path of its tree, the name of its station, the path of its store, where browsers reach it, by what
@@ -129,6 +131,19 @@ pub struct ScreenLine<'a> {
     pub turns: Option<u32>,
     /// Whether it starts on a store that is older than its label.
     pub accepts_older: bool,
+    /// Whether it runs as a service, whose standard error people read as its journal.
+    pub is_service: bool,
+}
+
+impl CommandLine<'_> {
+    /// Returns true if the command runs as a service.
+    pub(crate) fn is_service(self) -> bool {
+        match self {
+            CommandLine::Node(line) => line.is_service,
+            CommandLine::Screen(line) => line.is_service,
+            _ => false,
+        }
+    }
 }
 
 /// Returns what the words of a command line ask for, the program's own name first.
@@ -277,6 +292,7 @@ fn station_command<'a>(alloc: Global, name: &'a str) -> Result<Command<'a>, Erro
     let form = form.arg(flag(alloc, "endless"))?;
     let form = form.arg(flag(alloc, "accept-older"))?;
     let form = form.arg(flag(alloc, "open"))?;
+    let form = form.arg(flag(alloc, "service"))?;
     let form = form.arg(Arg::new(alloc, "SOURCES").long("sources"))?;
     let console = Arg::new(alloc, "C").long("console");
     Ok(form.arg(console.action(ArgAction::Append))?)
@@ -395,6 +411,7 @@ fn screen_line<'a>(given: &ArgMatches<'a>) -> Option<ScreenLine<'a>> {
         history_days: days_of(given.get_str("DAYS"))?,
         turns: turns_of(given.get_str("T"), given.get_flag("endless"))?,
         accepts_older: given.get_flag("accept-older"),
+        is_service: given.get_flag("service"),
     })
 }
 
@@ -411,6 +428,7 @@ fn node_line<'a>(given: &ArgMatches<'a>) -> Option<NodeLine<'a>> {
         accepts_older: given.get_flag("accept-older"),
         journal: journal_line(given.get_str("FOLDER"), given.get_flag("journal-sync"))?,
         sources: sources_of(given.get_str("SOURCES"))?,
+        is_service: given.get_flag("service"),
     })
 }
 

@@ -98,6 +98,7 @@ const wordsOf = (it) => it.line.split(\" \").slice(1);
 const operatorOf = (it) => wordsOf(it)[0];
 const domainOf = (it) => wordsOf(it)[2];
 const orderOf = (it) => wordsOf(it).slice(1).join(\" \");
+const byWhom = (it) => it.by ? \" by \" + it.by : \"\";
 const hasBegun = (it) => withdrawals.some(({ answer }) => answer === \"begun \" + it.number);
 const holdsUp = (it) => it.waits && wordsOf(it)[1] !== \"ask\";
 const waitingOf = (name, before = Infinity) =>
@@ -109,6 +110,27 @@ function waitedFor(orders, domain) {
 }
 const firstBefore = (it) =>
   holdsUp(it) ? waitedFor(waitingOf(operatorOf(it), it.number), domainOf(it))[0] : undefined;
+const MOST_IN_NAME = 32;
+const nameIn = (text) => text.replace(/[^ !$-[\\]-~]/g, \"\").trim().slice(0, MOST_IN_NAME).trim();
+let myName = nameIn(kept(\"name\") || \"\");
+function takeName(text) {
+  myName = nameIn(text);
+  keep(\"name\", myName);
+}
+const signed = (line) => myName ? line + \" # \" + myName : line;
+function nameField() {
+  const field = make(\"input\");
+  field.id = \"my-name\";
+  field.maxLength = MOST_IN_NAME;
+  field.autocomplete = \"off\";
+  field.placeholder = \"your name\";
+  field.title = \"it goes with each order\";
+  field.value = myName;
+  label(field, \"your name\");
+  field.addEventListener(\"input\", () => takeName(field.value));
+  field.addEventListener(\"blur\", () => { field.value = myName; });
+  return field;
+}
 let typed = \"\";
 try { typed = sessionStorage.getItem(\"token\") || \"\"; } catch (refused) { }
 const asksToken = () => KEY === \"\";
@@ -164,7 +186,7 @@ function tellEnds() {
 }
 async function give(order) {
   const line = \"order \" + who + \" \" + order, words = order.split(\" \"), counts = countedFor(words), one = expect(line);
-  if (!await send(line, line)) {
+  if (!await send(signed(line), line)) {
     awaited = awaited.filter((it) => it !== one);
     one.tell(null);
   }
@@ -275,7 +297,7 @@ const withdrawing = new Map();
 async function withdraw(number, order) {
   if (withdrawing.has(number)) return;
   withdrawing.set(number, order);
-  if (!await send(\"withdraw \" + number, \"withdraw \" + order)) withdrawing.delete(number);
+  if (!await send(signed(\"withdraw \" + number), \"withdraw \" + order)) withdrawing.delete(number);
 }
 function tellBegun() {
   withdrawing.forEach((order, number) => {
@@ -462,11 +484,11 @@ function showGiven() {
   given.forEach((it) => {
     if (it.waits || ended.has(it.number)) return;
     ended.set(it.number, time);
-    if (newest) note(it.line + \": \" + fateOf(it), liveNow());
+    if (newest) note(it.line + byWhom(it) + \": \" + fateOf(it), liveNow());
   });
   const old = given.filter((it) => !it.waits && time - ended.get(it.number) < SHOWN_FOR).slice(-SHOWN);
   const rows = given.filter((it) => it.waits || old.includes(it)).map((it) => ({ number: it.number,
-    order: it.line.slice(6), fate: fateOf(it) + (found.has(it.number) ? \"\" : \", not from this page\"),
+    order: it.line.slice(6) + byWhom(it), fate: fateOf(it) + (found.has(it.number) ? \"\" : \", not from this page\"),
     edge: edgeOf(it), isFirm: !it.waits || hasBegun(it), names: wordsOf(it).slice(2) }));
   listAll = listAll || lister(by(\"given\"));
   listAll(rows);
@@ -501,7 +523,7 @@ told.setAttribute(\"role\", \"status\");
 list.id = \"given\";
 list.className = \"given\";
 list.setAttribute(\"aria-label\", \"orders that were given here\");
-by(\"clock\").before(chooser, ...(asksToken() ? [tokenField()] : []), standing);
+by(\"clock\").before(chooser, nameField(), ...(asksToken() ? [tokenField()] : []), standing);
 by(\"alarms\").after(list, told);
 set(by(\"never\"), \"A click orders once you have said yes.\");
 extras.push(ordersOf);

@@ -33,8 +33,8 @@ a.tool { display: inline-block; margin-top: .8rem }
 #clock { margin-left: auto; font-size: 1.5rem; font-weight: 700 }
 .tool { border: 2px solid var(--line); border-radius: 8px; padding: .15rem .6rem; color: var(--soft); font-weight: 600 }
 .tool[aria-pressed=true] { color: var(--ink); border-color: var(--soft) }
-#find, #token { font: inherit; width: 9rem; padding: .15rem .5rem; border: 2px solid var(--line); border-radius: 8px;
-  background: var(--card); color: var(--ink) }
+#find, #token, #my-name { font: inherit; width: 9rem; padding: .15rem .5rem; border: 2px solid var(--line);
+  border-radius: 8px; background: var(--card); color: var(--ink) }
 select { font: inherit; color: var(--ink); background: var(--card); border: 2px solid var(--line); border-radius: 8px }
 #all { display: grid; grid-template: \"aside\" \"main\" \"footer\" / minmax(0, 1fr) }
 aside { grid-area: aside; padding: .4rem .8rem 0 }
@@ -272,7 +272,7 @@ td, th { padding: .2rem .4rem; border-bottom: 1px solid var(--line); text-align:
   .dense #main { columns: auto }
 }
 @media (max-width: 40rem) {
-  button, summary, select, #find, #token, #past input, h1 a, .tool { min-height: 44px; min-width: 44px }
+  button, summary, select, #find, #token, #my-name, #past input, h1 a, .tool { min-height: 44px; min-width: 44px }
   h1 a { display: inline-flex; align-items: center }
   .top { min-height: 44px !important }
   .row { grid-template-columns: 5rem minmax(0, 1fr) }

@@ -1,9 +1,8 @@
-//! Says in words what is wrong with a tree file, for a person at a terminal.
+//! Says in words what is wrong with a tree file, for a person.
 
 use crate::line::{CommandLine, line_of};
 use crate::tree::tree_bytes;
 use crate::words::{Words, bytes_of};
-use smi_commands::status::Status;
 use smi_tree::{Tree, TreeFault};
 use std::alloc::Global;
 use std::io::{self, Write};
@@ -17,20 +16,14 @@ const LONGEST_NAME: usize = 16;
 const LONGEST_LINE: usize = 200;
 
 /// Shows the faulty line of the tree file that the words of a command line name, and says in words what is wrong with
-/// it, if a command has refused something and `faults` is a terminal. Else it writes nothing, so that a program that
-/// reads `faults` finds the one line alone.
+/// it, if it has one.
 ///
 /// It reads the file a second time, and is silent if that can't be done, or if the file is one.
-pub fn tell_tree_fault<H: Files + AllocGlobal, F: Write>(
+pub(crate) fn tell_tree_fault<H: Files + AllocGlobal, F: Write>(
     host: &H,
     words: &Words,
-    status: u8,
-    is_terminal: bool,
     faults: &mut F,
 ) {
-    if status != Status::Refused.code() || !is_terminal {
-        return;
-    }
     let alloc = host.alloc();
     let Some(path) = tree_of(line_of(alloc, words.texts.as_slice())) else {
         return;

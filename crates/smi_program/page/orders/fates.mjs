@@ -8,7 +8,7 @@ import { domains, liveNow, newest, tree } from "../model.mjs";
 import { learnAcknowledged } from "./acknowledging.mjs";
 import { listHere, offerOperators } from "./choosing.mjs";
 import { asksChild, isManual, isOfMode, isSilent, parentOf } from "./counted.mjs";
-import { connect, firstBefore, found, given, hasBegun, hasConsole, learn, orderOf, wordsOf } from "./given.mjs";
+import { byWhom, connect, firstBefore, found, given, hasBegun, hasConsole, learn, orderOf, wordsOf } from "./given.mjs";
 import { lister } from "./given_list.mjs";
 import { tellEnds } from "./giving.mjs";
 import { held, learnModes } from "./modes.mjs";
@@ -80,11 +80,11 @@ function showGiven() {
   given.forEach((it) => {
     if (it.waits || ended.has(it.number)) return;
     ended.set(it.number, time);
-    if (newest) note(it.line + ": " + fateOf(it), liveNow());
+    if (newest) note(it.line + byWhom(it) + ": " + fateOf(it), liveNow());
   });
   const old = given.filter((it) => !it.waits && time - ended.get(it.number) < SHOWN_FOR).slice(-SHOWN);
   const rows = given.filter((it) => it.waits || old.includes(it)).map((it) => ({ number: it.number,
-    order: it.line.slice(6), fate: fateOf(it) + (found.has(it.number) ? "" : ", not from this page"),
+    order: it.line.slice(6) + byWhom(it), fate: fateOf(it) + (found.has(it.number) ? "" : ", not from this page"),
     edge: edgeOf(it), isFirm: !it.waits || hasBegun(it), names: wordsOf(it).slice(2) }));
   listAll = listAll || lister(by("given"));
   listAll(rows);

@@ -2,7 +2,7 @@
 //
 // The screen tells lines that withdraw an order among the orders. Here they are apart, because they have no operator.
 
-/** @typedef {{number: number, line: string, seconds: number, waits: boolean, answer: string | null,
+/** @typedef {{number: number, line: string, by: string | null, seconds: number, waits: boolean, answer: string | null,
  *   code: number | null, words: string | null}} Order An order (docs/FORMATS.md, "Orders from the page"). */
 
 // About how many domains the orders of one operator may wait at once.
@@ -42,6 +42,9 @@ export const domainOf = (it) => wordsOf(it)[2];
 /** Returns the words of an order without its operator.
  * @param {Order} it */
 export const orderOf = (it) => wordsOf(it).slice(1).join(" ");
+/** Returns who has given an order, as it follows the order's words; "" if nobody said so.
+ * @param {Order} it */
+export const byWhom = (it) => it.by ? " by " + it.by : "";
 /** Returns true if somebody wanted to withdraw an order, and was told that it has begun.
  * @param {Order} it */
 export const hasBegun = (it) => withdrawals.some(({ answer }) => answer === "begun " + it.number);

@@ -5,6 +5,7 @@ import { by, set } from "../dom.mjs";
 import { countedFor, endCounted, isOfMode } from "./counted.mjs";
 import { found, given, who } from "./given.mjs";
 import { noteMode } from "./modes.mjs";
+import { signed } from "./naming.mjs";
 import { asksToken, authorization, takeToken } from "./token.mjs";
 
 /** @typedef {import("./deeds.mjs").Deed} Deed */
@@ -62,7 +63,7 @@ export function tellEnds() {
  * @param {string} order */
 export async function give(order) {
   const line = "order " + who + " " + order, words = order.split(" "), counts = countedFor(words), one = expect(line);
-  if (!await send(line, line)) {
+  if (!await send(signed(line), line)) {
     awaited = awaited.filter((it) => it !== one);
     one.tell(null);
   }

@@ -9,6 +9,7 @@ import { isManual } from "./counted.mjs";
 import { followOrders } from "./fates.mjs";
 import { choose } from "./given.mjs";
 import { modeOf } from "./modes.mjs";
+import { nameField } from "./naming.mjs";
 import { asksToken, tokenField } from "./token.mjs";
 
 const chooser = make("label", "", "orders as"), select = make("select");
@@ -24,7 +25,7 @@ told.setAttribute("role", "status");
 list.id = "given";
 list.className = "given";
 list.setAttribute("aria-label", "orders that were given here");
-by("clock").before(chooser, ...(asksToken() ? [tokenField()] : []), standing);
+by("clock").before(chooser, nameField(), ...(asksToken() ? [tokenField()] : []), standing);
 by("alarms").after(list, told);
 set(by("never"), "A click orders once you have said yes.");
 extras.push(ordersOf);

@@ -2,6 +2,7 @@
 
 import { withdrawals } from "./given.mjs";
 import { send, tellGiven } from "./giving.mjs";
+import { signed } from "./naming.mjs";
 
 /** The orders that this page withdraws, by their numbers, until it knows what became of that.
  * @type {Map<number, string>} */
@@ -12,7 +13,7 @@ const withdrawing = new Map();
 export async function withdraw(number, order) {
   if (withdrawing.has(number)) return;
   withdrawing.set(number, order);
-  if (!await send("withdraw " + number, "withdraw " + order)) withdrawing.delete(number);
+  if (!await send(signed("withdraw " + number), "withdraw " + order)) withdrawing.delete(number);
 }
 
 /** Tells which orders have begun, so that they can't be withdrawn. */
