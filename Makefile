@@ -49,7 +49,7 @@ install: bin/smi
 	install -m 644 $(TOOLS:%=tools/%.py) $(DESTDIR)$(SHARE)/tools
 	install -m 644 $(filter-out $(UNITS:%=examples/%),$(wildcard examples/*)) $(DESTDIR)$(SHARE)/examples
 	install -m 644 README.md SECURITY.md CHANGELOG.md LICENSE $(DESTDIR)$(DOC)
-	install -m 644 docs/*.md $(DESTDIR)$(DOC)/docs
+	install -m 644 docs/*.md docs/*.png $(DESTDIR)$(DOC)/docs
 	install -m 644 docs/pictures/* $(DESTDIR)$(DOC)/docs/pictures
 
 # A package for Debian of the same, in package/out/.
