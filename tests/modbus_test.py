@@ -21,8 +21,10 @@ from running import at_last, is_so
 
 BRIDGE, PLC = os.path.join(running.ROOT, "tools", "modbus_bridge.py"), os.path.join(running.HERE, "plc.py")
 
+# pymodbus imports the second module, and its package only recommends that one.
 pytestmark = pytest.mark.skipif(
-    not importlib.util.find_spec("pymodbus"), reason="there is no pymodbus (Debian's python3-pymodbus)")
+    not all(map(importlib.util.find_spec, ["pymodbus", "serial_asyncio"])),
+    reason="there is no whole pymodbus (Debian's python3-pymodbus and python3-serial-asyncio)")
 
 KIND = """kind SUPPLY
 period 0.1

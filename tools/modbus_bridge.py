@@ -18,7 +18,7 @@ the holding register into which the number of an action is written. Both are num
 All devices of one place share one connection, and one asks at a time. A place that does not answer is left alone for a
 second, so that one device alone waits for it and the others are away at once.
 
-It needs pymodbus (Debian: python3-pymodbus).
+It needs pymodbus (Debian: python3-pymodbus and python3-serial-asyncio).
 """
 
 import logging
