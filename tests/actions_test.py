@@ -3,6 +3,7 @@
 import os
 import statistics
 import subprocess
+import sys
 import threading
 import types
 
@@ -18,6 +19,9 @@ ACTIONS, UNREAD, TOO_MANY = 1_000, 4_000, 12_000
 # How many actions may wait for the front desk, by docs/FORMATS.md; how many devices a domain has at most; and how many
 # commands are given while the front desk is stopped, so that actions of some of them are left out.
 WAITING, DEVICES, COMMANDS = 8_192, 16, 600
+# How many states are recorded at once while memory is refused, how many allocations are refused, each in a run of its
+# own, and more of them than any run has.
+CHANGES, GROWTHS, NEVER = 60, 8, 1 << 40
 
 
 @pytest.fixture
@@ -150,3 +154,57 @@ def test_unread(program, place, subtests):
         assert [other_asked(place), child.poll() is None] == ["board L none", True]
     child.kill()
     child.wait()
+
+
+def told_to(follower, wanted):
+    """Returns what one that follows is told up to the last line that is wanted, or None if it is let go before."""
+    found = []
+    while wanted[-1:] != found[-1:]:
+        line = follower.line()
+        if line == "":
+            return None
+        found.append(line)
+        if line is None:
+            break
+    return found
+
+
+def told_without_memory(start_node, folder, refusing, growth):
+    """Refuses one allocation of a node, the first or a later one while it records many states at once.
+
+    Returns these states as they are told, and what each of two connections was told that follow them.
+    """
+    os.mkdir(folder)
+    count = os.path.join(folder, "growths")
+    env = {**os.environ, "LD_PRELOAD": refusing, "COUNT": count, "REFUSE": str(NEVER)}
+    place = Place(folder, lambda *words: start_node(*words, env=env), tree=with_many_devices(TREE))
+    there = os.path.join(folder, "there")
+    away = start_node(place.tree, "AWAY", os.path.join(folder, "away"), "--endless", "--console", there)
+    wait_for(there, away)
+    followers = [Console(place.where) for _ in range(2)]
+    assert [it.ask("follow L") for it in followers] == ["board L 1.0 OFF"] * 2
+    with lunskaf.Node(there, patience=DEADLINE) as fay:
+        fay.take("FAY", "LEFT")
+        with threads.held(place.node.child.pid):
+            for number in range(CHANGES):
+                fay.do("FAY", "LEFT", ("GO", "FALL")[number % 2])
+            # the library counts in this file
+            with open(count, "r+b") as file:
+                file.write((NEVER - growth).to_bytes(8, sys.byteorder))
+    wanted = ["board L 1.%d %s" % (number + 1, ("READY", "OFF")[number % 2]) for number in range(CHANGES)]
+    told = [told_to(it, wanted) for it in followers]
+    for node in (place.node, away):
+        node.kill()
+    return wanted, told
+
+
+def test_no_memory(folder, start_node, refusing, subtests):
+    """A connection that follows is told all states, or is let go if memory was refused: it never lacks one unseen."""
+    ends = set()
+    for growth in range(1, GROWTHS + 1):
+        wanted, told = told_without_memory(start_node, os.path.join(folder, str(growth)), refusing, growth)
+        with subtests.test("allocation %d" % growth):
+            assert all(it in (wanted, None) for it in told)
+        ends.add(tuple(it is None for it in told))
+    with subtests.test("all are let go if a state can't be recorded"):
+        assert (True, True) in ends

@@ -12,6 +12,7 @@ import pytest
 import pytest_subtests
 
 import growths
+import nights
 import nodes
 import running
 import screens
@@ -156,3 +157,18 @@ def start_screen(program):
     yield start
     for screen in begun:
         screen.end()
+
+
+@pytest.fixture(scope="module")
+def made_night():
+    """A browser at the page of a detector after a shift."""
+    it = nights.Night()
+    yield it
+    it.end()
+
+
+@pytest.fixture
+def night(made_night):
+    """A page after a shift, with the past not open yet."""
+    made_night.begin()
+    return made_night

@@ -3,6 +3,8 @@
 Times are said with slack, because other programs may run beside.
 """
 
+import ctypes
+import errno
 import os
 import socket
 import statistics
@@ -23,8 +25,11 @@ from running import DEADLINE
 GUESTS, ORDERS, COMERS = 128, 50, 10_000
 # How long a client may take nothing, in seconds, by docs/FORMATS.md; and how much more a test waits for its end.
 STUCK, SLACK = 2, 20
-# After how many seconds of silence a connection makes room for a new one.
-SILENCE = 30
+# The options that say when a silent client ends, and the number of the call that Python does not have.
+ASKING = [socket.TCP_KEEPIDLE, socket.TCP_KEEPINTVL, socket.TCP_KEEPCNT, socket.TCP_USER_TIMEOUT]
+PIDFD_GETFD = 438
+# After how many seconds of silence a connection makes room for a new one, and by how many an answer is late.
+SILENCE, LATE = 30, 0.5
 
 
 @pytest.fixture
@@ -402,22 +407,55 @@ def test_lines(place, subtests):
         assert other_asked(place) == "board L none"
 
 
+def test_no_more_lines(place, subtests):
+    """One that sends no more is told all that it waits for, however late that comes, and ends then."""
+    console = Console(place.where)
+    console.say("@1 order ANN take FAR\n@2 order BOB take LEFT\n")
+    console.socket.shutdown(socket.SHUT_WR)
+    with subtests.test("what comes soon"):
+        assert console.line() == "@2 told BOB take LEFT 0"
+    time.sleep(LATE)
+    away = place.start_away()
+    with subtests.test("what comes late, and the end"):
+        assert console.rest() == ["@1 told ANN take FAR 0"]
+    away.kill()
+
+
 def current_mask():
     mask = os.umask(0)
     os.umask(mask)
     return mask
 
 
-def timers(port, other):
-    """Returns which timer the system runs for each connection of a port of this machine with another one (proc(5))."""
+def connections(port, other):
+    """Returns the rows of proc(5) of the connections of a port of this machine with another one."""
     rows = [line.split() for line in running.text_of("/proc/net/tcp").splitlines()[1:]]
-    return [row[5][:2] for row in rows if [int(it.split(":")[1], 16) for it in row[1:3]] == [port, other]]
+    return [row for row in rows if [int(it.split(":")[1], 16) for it in row[1:3]] == [port, other]]
+
+
+def timers(port, other):
+    """Returns which timer the system runs for each connection of a port of this machine with another one."""
+    return [row[5][:2] for row in connections(port, other)]
+
+
+def copy_of(process, socket_number):
+    """Returns a copy of a socket of a process, by its number in the system: pidfd_getfd(2), which Python does not have."""
+    folder = "/proc/%d/fd" % process
+    name = "socket:[%s]" % socket_number
+    held, = [int(number) for number in os.listdir(folder) if os.readlink(os.path.join(folder, number)) == name]
+    opened = os.pidfd_open(process)
+    copy = ctypes.CDLL(None, use_errno=True).syscall(PIDFD_GETFD, opened, held, 0)
+    os.close(opened)
+    if copy < 0 and ctypes.get_errno() in (errno.EPERM, errno.ENOSYS):
+        pytest.skip("this system gives nobody a copy of a socket")
+    assert copy >= 0, os.strerror(ctypes.get_errno())
+    return socket.socket(fileno=copy)
 
 
 def test_keeps_alive(folder, start_node, subtests):
     """The system asks after a client over TCP from which nothing comes: its machine may have lost its power."""
     port = screens.tcp_port()
-    Place(folder, start_node, [os.path.join(folder, "socket"), "127.0.0.1:%d" % port])
+    place = Place(folder, start_node, [os.path.join(folder, "console"), "127.0.0.1:%d" % port])
     tcp = Console("127.0.0.1:%d" % port)
     with subtests.test("it is answered"):
         assert tcp.ask("show L") == "board L none"
@@ -426,6 +464,11 @@ def test_keeps_alive(folder, start_node, subtests):
         assert running.at_last(lambda: timers(port, other), ["02"]) == ["02"]
     with subtests.test("none asks after the node in its turn"):
         assert running.at_last(lambda: timers(other, port), ["00"]) == ["00"]
+    (row,) = connections(port, other)
+    with copy_of(place.node.child.pid, row[9]) as copy:
+        options = [copy.getsockopt(socket.IPPROTO_TCP, option) for option in ASKING]
+    with subtests.test("whether or not bytes are on their way to it, a minute after it was heard last it ends"):
+        assert options == [30, 10, 3, 60_000]
     tcp.close()
 
 

@@ -1,8 +1,11 @@
-"""What an audit says of nights that were not honest: forged datagrams, a second process of a station, a store that was put
-back, and another tree. The bytes of the datagrams are those of docs/FORMATS.md."""
+"""What an audit says of nights that were not honest: forged datagrams, a second process of a station, a store that was
+put back or lost its last saves, and another tree. The bytes of the datagrams and the words of the verdicts are those of
+docs/FORMATS.md.
+"""
 
 import os
 import shutil
+import signal
 import socket
 import subprocess
 
@@ -32,9 +35,15 @@ class Night:
     def start(self, station, *words):
         before = self.files(station)
         node = self.start_node(self.tree, station, self.store(station), "--endless", "--journal", self.night, *words)
-        assert running.is_so(lambda: len(self.files(station)) > len(before))
+        self.begun(station, before)
         self.running[station] = node
         return node
+
+    def begun(self, station, before):
+        """Returns the file that a start begins, once it has a line after its block: a block at the end may be torn."""
+        new = lambda: [it for it in self.files(station) if it not in before and b" passed " in running.read(it)]
+        assert running.is_so(new)
+        return new()[0]
 
     def kill(self, station):
         self.running.pop(station).kill()
@@ -43,16 +52,38 @@ class Night:
         names = os.listdir(self.night) if os.path.isdir(self.night) else []
         return [os.path.join(self.night, it) for it in sorted(names) if it.startswith(station + "-")]
 
+    def lines(self, station):
+        """Returns the lines of a station's journals, each with its place: the file, and the line in it."""
+        return [("%s line %d" % (path, number), line) for path in self.files(station)
+                for number, line in enumerate(running.read(path).decode().splitlines(), 1)]
+
     def says(self, station, words):
         """Returns true once a journal of the station has an entry of these words."""
-        return running.is_so(lambda: any(line.endswith(" " + words) for path in self.files(station)
-                                         for line in running.read(path).decode().splitlines()))
+        return running.is_so(lambda: any(line.endswith(" " + words) for _, line in self.lines(station)))
+
+    def where(self, station, words):
+        """Returns the place of an entry that a station's journals have once, and the entry."""
+        [place] = [place for place, line in self.lines(station) if line.endswith(" " + words)]
+        return "%s: %s" % (place, words)
+
+    def until(self, station):
+        """Returns the words that say how far the journal of a station goes."""
+        return "station %s, whose journal ends %sZ" % (station, self.lines(station)[-1][1].split(".")[0])
 
     def forge(self, station, data, host="127.0.0.1"):
         """Sends a datagram to a station, from a port of this host."""
         with socket.socket(socket.AF_INET, socket.SOCK_DGRAM) as out:
             out.bind((host, 0))
             out.sendto(data, ("127.0.0.1", self.ports[station - 1]))
+
+    def forge_run(self, argument):
+        """Has TPC run an action that DCS, which holds it, never handed on."""
+        self.forge(B, datagram(layout.RUN, **{"from": A}, to=B, subject=TPC, holder_kind=DOMAIN, holder=DCS, code=1,
+                               epoch=1, number=1, argument=argument))
+
+    def forge_drop(self):
+        """Has TPC given back, which DCS goes on to hold."""
+        self.forge(B, datagram(layout.DROP, **{"from": A}, to=B, subject=TPC, holder_kind=DOMAIN, holder=DCS, epoch=1))
 
     def include(self):
         """Has DCS, which ANN holds, hold TPC."""
@@ -66,7 +97,7 @@ class Night:
             self.kill(station)
         paths = self.files("A") + self.files("B")
         done = subprocess.run([self.program, "audit", tree or self.tree, *paths], capture_output=True, text=True,
-                              check=False)
+                              check=False, timeout=running.DEADLINE)
         return done.returncode, done.stdout + done.stderr
 
 
@@ -90,24 +121,70 @@ def test_an_honest_night_is_safe(both):
 
 
 def test_a_forged_run_is_told(both):
+    """The run waits for what A never did, and what A was shown of it waits for what B passed after the run: a ring."""
     both.include()
-    both.forge(B, datagram(layout.RUN, **{"from": A}, to=B, subject=TPC, holder_kind=DOMAIN, holder=DCS, code=1, epoch=1,
-                           number=1, argument=1))
-    assert both.says("B", "ran TPC 1 1 do CONFIGURE")
-    # What A was shown waits for an entry of B that follows this run, and the run waits for what A never did.
-    status, said = both.audit()
-    assert status == 1 and said.startswith("unsafe: ") and ": ran TPC 1 1 do CONFIGURE waits for " in said, said
+    both.forge_run(argument=1)
+    assert both.says("B", "ran TPC 1 1 do CONFIGURE") and both.says("A", "showed A TPC 1.1 READY")
+    assert both.audit() == (1, "unsafe: %s waits for a run of DCS that is handed on of station A, whose journal waits"
+                            " too\n" % both.where("B", "ran TPC 1 1 do CONFIGURE"))
+
+
+def test_a_forged_run_that_nobody_saw_is_told(both):
+    """Its action moves no device, so nothing was shown of it. A's journal might go on with what it waits for."""
+    both.include()
+    both.forge_run(argument=2)
+    assert both.says("B", "settled TPC 1 1 0")
+    assert both.audit() == (1, "open: %s waits for a run of DCS that is handed on of %s\n" % (
+        both.where("B", "ran TPC 1 1 do START"), both.until("A")))
+
+
+def test_a_forged_run_in_the_place_of_a_true_one_is_told(both):
+    """TPC has run a command under the number of the one that DCS hands on, and it was another."""
+    both.include()
+    both.forge_run(argument=2)
+    assert both.says("B", "settled TPC 1 1 0")
+    assert both.running["A"].ask("order ANN do DCS CONFIGURE") == "told ANN do DCS CONFIGURE 0"
+    assert both.audit() == (1, "unsafe: %s, which is no command that is handed on by DCS\n" % both.where(
+        "B", "ran TPC 1 1 do START"))
+
+
+def test_two_commanders_by_a_forged_drop_are_told(both):
+    """BOB takes what DCS goes on to hold. That is open as long as A's journal may go on with a drop of DCS."""
+    both.include()
+    both.forge_drop()
+    assert both.says("B", "freed TPC 2")
+    assert both.running["B"].ask("order BOB take TPC") == "told BOB take TPC 0"
+    both.running["A"].say("order ANN do DCS CONFIGURE")
+    assert both.says("A", "ran DCS 1 2 do CONFIGURE")
+    assert both.audit() == (1, "open: %s waits for letgo DCS TPC 1 of %s\n" % (
+        both.where("B", "freed TPC 2"), both.until("A")))
 
 
 def test_a_forged_drop_is_told(both):
     both.include()
-    both.forge(B, datagram(layout.DROP, **{"from": A}, to=B, subject=TPC, holder_kind=DOMAIN, holder=DCS, epoch=1))
+    both.forge_drop()
     assert both.says("B", "freed TPC 2")
-    status, said = both.audit()
-    assert status == 1 and "freed TPC 2" in said and "letgo DCS TPC 1" in said, said
+    assert both.audit() == (1, "open: %s waits for letgo DCS TPC 1 of %s\n" % (
+        both.where("B", "freed TPC 2"), both.until("A")))
+
+
+@pytest.mark.parametrize("is_forged", [False, True])
+def test_what_soaks_end_in(both, is_forged):
+    """Soaks, chaos and crowds fail if the night that they leave is not safe, and print the verdict's first line."""
+    both.include()
+    if is_forged:
+        both.forge_drop()
+        assert both.says("B", "freed TPC 2")
+    _, said = both.audit()
+    assert nodes.audit(both.program, both.tree, both.night) == (not is_forged, said.split("\n")[0])
+
+
+def test_a_soak_without_journals_is_not_safe(night):
+    assert not nodes.audit(night.program, night.tree, night.night)[0]
 
 
 def test_a_forged_tell_is_told(night):
+    """B begins after it, so that no take of A reaches it."""
     node = night.start("A")
     assert node.ask("order ANN take DCS") == "told ANN take DCS 0"
     node.say("@1 order ANN include DCS TPC")
@@ -115,16 +192,16 @@ def test_a_forged_tell_is_told(night):
     night.forge(A, datagram(layout.TELL, **{"from": B}, to=A, subject=TPC, holder_kind=DOMAIN, holder=DCS, epoch=1))
     assert night.says("A", "learned DCS TPC 1")
     night.start("B")
-    status, said = night.audit()
-    assert status == 1 and "learned DCS TPC 1" in said and "granted TPC 1 DCS" in said, said
+    assert night.audit() == (1, "open: %s waits for granted TPC 1 DCS of %s\n" % (
+        night.where("A", "learned DCS TPC 1"), night.until("B")))
 
 
 def test_a_forged_state_is_told(both):
     both.include()
     both.forge(A, datagram(layout.STATE, **{"from": B}, to=A, subject=TPC, echo=1, boot=1, sequence=9, code=3))
     assert both.says("A", "showed A TPC 1.9 RUNNING")
-    status, said = both.audit()
-    assert status == 1 and "showed A TPC 1.9 RUNNING" in said, said
+    assert both.audit() == (1, "open: %s waits for passed TPC 1.9 RUNNING of %s\n" % (
+        both.where("A", "showed A TPC 1.9 RUNNING"), both.until("B")))
 
 
 def test_a_forged_take_gives_a_grant_that_nobody_learns_of(both):
@@ -161,43 +238,80 @@ def test_where_a_datagram_has_to_come_from(night, words, host, is_heard):
 
 
 def copied(night, station):
-    """Copies the store of a station that does not run, with what belongs to it, and returns how to put that back."""
+    """Copies the store of a station that does not run now, with what belongs to it, and returns how to put it back."""
     names = [it for it in os.listdir(night.folder) if it == station or it.startswith(station + "-")]
     for name in names:
         shutil.copy(os.path.join(night.folder, name), os.path.join(night.folder, "copy " + name))
     return [(os.path.join(night.folder, "copy " + name), os.path.join(night.folder, name)) for name in names]
 
 
-def test_a_store_that_was_put_back_is_told(night):
-    night.start("B")
-    night.kill("B")
-    copies = copied(night, "B")
-    node = night.start("B")
-    assert node.ask("order BOB take TPC") == "told BOB take TPC 0"
-    night.kill("B")
+def put_back(copies):
     for copy, path in copies:
         shutil.copy(copy, path)
+
+
+def started_last(night, start):
+    """Starts a node of B, and returns the file that its journal begins."""
+    before = night.files("B")
+    start()
+    return night.begun("B", before)
+
+
+@pytest.mark.parametrize("words", [(), ("--accept-older",)], ids=["with its label", "below its label"])
+@pytest.mark.parametrize("starts", [1, 2])
+@pytest.mark.parametrize("has_taken", [True, False])
+def test_a_store_that_was_put_back_is_told(night, has_taken, starts, words):
+    """The store is of an earlier start, so a boot comes twice, whatever was lost: fault 14 of the line that says it."""
     night.start("B")
+    night.kill("B")
+    copies = [it for it in copied(night, "B") if not words or not it[1].endswith("-tree")]
+    for _ in range(starts):
+        node = night.start("B")
+        if has_taken:
+            assert node.ask("order BOB take TPC") == "told BOB take TPC 0"
+            assert node.ask("order BOB drop TPC") == "told BOB drop TPC 0"
+        night.kill("B")
+    put_back(copies)
+    name = started_last(night, lambda: night.start("B", *words))
     night.start("A")
-    status, said = night.audit()
-    assert status == 1 and "B-" in said, said
+    assert night.audit() == (1, "journal %s line 2 fault 14\n" % name)
 
 
-def test_a_second_process_of_a_station_is_told(both):
+@pytest.mark.parametrize("operator, station", [("ANN", "A"), ("BOB", "B")])
+def test_a_store_that_lost_its_last_saves_is_told(both, operator, station):
+    """No start was lost, so boots rise. The row of TPC says less than the journal, and so does BOB's if he took it."""
+    # (a node that rests copies its log into its store now and then, so it may not run meanwhile)
+    both.running["B"].child.send_signal(signal.SIGSTOP)
+    copies = copied(both, "B")
+    both.running["B"].child.send_signal(signal.SIGCONT)
+    assert both.running[station].ask("order %s take TPC" % operator) == "told %s take TPC 0" % operator
+    # A ends first, so that it is shown nothing of the start after the gap
+    for it in "AB":
+        both.kill(it)
+    put_back(copies)
+    name = started_last(both, lambda: both.start("B"))
+    assert both.audit() == (1, "open: gap before %s line 2\n" % name)
+
+
+@pytest.mark.parametrize("takes", ["", "first", "second", "first second"])
+def test_a_second_process_of_a_station_is_told(both, takes):
+    """Both begin with one store, so its next boot comes twice, whatever the two do."""
     both.kill("B")
     copied(both, "B")
     for name in os.listdir(both.folder):
         if name.startswith("copy B"):
             shutil.copy(os.path.join(both.folder, name), os.path.join(both.folder, name.replace("copy B", "second B")))
     first = both.start("B")
-    assert first.ask("order BOB take TPC") == "told BOB take TPC 0"
+    assert "first" not in takes or first.ask("order BOB take TPC") == "told BOB take TPC 0"
     tree = os.path.join(both.folder, "second")
     os.mkdir(tree)
     path = nodes.write_tree(tree, [both.ports[0], nodes.free_ports(1)[0]])
-    second = both.start_node(path, "B", os.path.join(both.folder, "second B"), "--endless", "--journal", both.night)
-    assert second.ask("order BOB take TPC") == "told BOB take TPC 0"
-    status, said = both.audit()
-    assert status == 1 and "B-" in said, said
+    line = [path, "B", os.path.join(both.folder, "second B"), "--endless", "--journal", both.night]
+    begun = []
+    name = started_last(both, lambda: begun.append(both.start_node(*line)))
+    assert "second" not in takes or begun[0].ask("order BOB take TPC") == "told BOB take TPC 0"
+    begun[0].kill()
+    assert both.audit() == (1, "journal %s line 2 fault 14\n" % name)
 
 
 def test_a_tree_with_another_rule_is_told(both):
@@ -206,7 +320,7 @@ def test_a_tree_with_another_rule_is_told(both):
     other = os.path.join(both.folder, "other")
     os.mkdir(other)
     status, said = both.audit(nodes.write_tree(other, both.ports, lines))
-    assert status == 1 and said.endswith("line 1 fault 15\n"), said
+    assert (status, said) == (1, "journal %s line 1 fault 15\n" % both.files("A")[0])
 
 
 def answers(node, *lines):

@@ -29,7 +29,7 @@ CODINGS = [
     *(("the coding %r" % text, ["Transfer-Encoding: " + text], END + HIDDEN, {400, 501})
       for text in ["identity", "xchunked", "chunked, chunked", "chunked, identity", "\x0bchunked", '"chunked"',
                    "chunked\x0b", "chunked;x", "chunked, gzip", "chunke", "gzip, chunked,x"])]
-# What is no chunk. (7.1; a screen takes a body of 64 bytes at most, and as many of extensions and trailers.)
+# What is no chunk. (7.1; a screen takes a body of 100 bytes at most, and 64 of extensions and of trailers each.)
 CHUNKS = [
     *(("the chunk %r" % text, [CHUNKED], text + b"\r\nabcd\r\n" + END + HIDDEN, {400, 413})
       for text in [b"-1", b"0x4", b"10000000000000004", b"4 4", b"+4", b"g", b"", b"FFFFFFFFFFFFFFFF", b"4\xff"]),

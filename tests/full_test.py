@@ -7,7 +7,7 @@ import sqlite3
 
 import running
 import stores
-from full import BELOW, CREW, DEVICES, DOMAINS, KEEPER, LAST, OPERATORS, SOON, Detector, child, domains, root
+from full import BELOW, CREW, DEVICES, DOMAINS, KEEPER, LAST, OPERATORS, ROOTS, SOON, Detector, child, domains, root
 
 
 def is_shown(node, name, wanted):
@@ -43,9 +43,10 @@ def check_crew(detector, subtests):
 def check_far(detector, subtests):
     """Stations before and after the crew's reach the keeper, and its answers reach them."""
     for station, name in [(1, "FIRST"), (LAST, "ALONE")]:
-        record = detector.ask(station, "order %s ask %s" % (name, root(OPERATORS)))
-        with subtests.test("station %d is answered" % station):
-            assert record == "told %s ask %s OP%d 1 %d settled 0" % (name, root(OPERATORS), OPERATORS, BELOW + 1)
+        records = [detector.ask(station, "order %s ask %s" % (name, root(it))) for it in range(1, ROOTS + 1)]
+        with subtests.test("station %d is told that each root is held by its own operator" % station):
+            assert records == ["told %s ask %s OP%d 1 %d settled 0" % (name, root(it), it, BELOW + 1)
+                               for it in range(1, ROOTS + 1)]
         refused = detector.ask(station, "order %s take %s" % (name, root(1)))
         with subtests.test("station %d is told who holds a root" % station):
             assert refused == "told %s take %s 5" % (name, root(1))

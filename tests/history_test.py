@@ -106,6 +106,53 @@ def test_a_command_whose_end_is_not_told_is_said_so(folder):
     assert "DCS began do START, by ANN: its end is not told\n" in history(path)
 
 
+def by_whom(folder, typed):
+    """Returns who gave the orders of a night in which these lines are typed, and then each order ends."""
+    orders = [it.partition("order ")[2] for it in typed if "order " in it]
+    said = ["typed " + it for it in typed] + ["told %s 0" % it for it in orders]
+    lines = ["2026-11-27T22:00:%02d.000Z TRK 7 %s" % it for it in enumerate(said)]
+    path = running.write(os.path.join(folder, "TRK"), "\n".join([HEAD, *lines, ""]))
+    told = [it["text"].partition("typed at ")[2].split() for it in json.loads(history("--json", path))]
+    return [it[it.index("by") + 1] if "by" in it else "" for it in told]
+
+
+@pytest.mark.parametrize("typed, names", [
+    # a name is that of the session from there on, and not of what was typed before
+    (["1003 order ANN take A", "1003 # name MARIA", "1003 @1 order ANN take B", "1003 order ANN take C",
+      "1004 order ANN take D"], ["", "MARIA", "MARIA", ""]),
+    # two names by turns
+    (["1003 # name MARIA", "1003 order ANN take A", "1003 # name PAUL", "1003 order ANN take B", "1003 # name MARIA",
+      "1003 order ANN take C"], ["MARIA", "PAUL", "MARIA"]),
+    # a name of a tag is that of the next order with the tag in the same session, and of no other
+    (["1003 # @1 name MARIA", "1003 @1 order ANN take A", "1003 @2 order ANN take B", "1003 # @3 name PAUL",
+      "1003 @3 order ANN take C", "1003 @1 order ANN take D", "1003 order ANN take E"],
+     ["MARIA", "", "PAUL", "", ""]),
+    (["1003 # @1 name MARIA", "1004 @1 order ANN take A", "1003 @11 order ANN take B", "1003 order ANN take C",
+      "1003 @1 order ANN take D"], ["", "", "", "MARIA"]),
+    # it counts for more than the name of the session
+    (["1003 # name ANNA", "1003 # @1 name MARIA", "1003 @1 order ANN take A", "1003 @2 order ANN take B"],
+     ["MARIA", "ANNA"]),
+    # the names of two orders that are under way at once
+    (["1003 # @1 name MARIA", "1003 # @2 name PAUL", "1003 @2 order ANN take A", "1003 @1 order ANN take B"],
+     ["PAUL", "MARIA"]),
+    # no names: another remark, and a word more
+    (["1003 # @1 nameMARIA", "1003 # @1 my name MARIA", "1003 # @ 1 name MARIA", "1003 @1 order ANN take A"], [""]),
+])
+def test_who_gave_an_order(folder, typed, names):
+    assert by_whom(folder, typed) == names
+
+
+def test_a_name_ends_with_the_boot_of_its_session(folder):
+    lines = [HEAD, "2026-11-27T22:00:00.000Z TRK 7 typed 1003 # name MARIA",
+             "2026-11-27T22:00:01.000Z TRK 7 typed 1003 # @1 name PAUL",
+             "2026-11-27T22:00:02.000Z TRK 8 booted TRK 8",
+             "2026-11-27T22:00:03.000Z TRK 8 typed 1003 @1 order ANN take DCS",
+             "2026-11-27T22:00:04.000Z TRK 8 told ANN take DCS 0", ""]
+    path = running.write(os.path.join(folder, "TRK"), "\n".join(lines))
+    assert history(path).splitlines()[-1] == (
+        "2026-11-27T22:00:04.000Z  ANN: take DCS: done, typed at connection 1003 1.0 s before")
+
+
 def test_programs_read_the_same_events(night):
     events = json.loads(history("--json", *night))
     assert [(it["time"], it["text"]) for it in events] == ALL

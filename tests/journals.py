@@ -1,4 +1,4 @@
-"""Journals of stations: made from traces of `smi sim`, and judged by rules that share no code with `smi audit`.
+"""Journals of stations: made from traces of `smi sim`, and forged. tests/judges.py judges them.
 
 An entry is a tuple of its words, with numbers as numbers, a version as a pair and a command as a pair.
 """
@@ -9,7 +9,6 @@ import hashlib
 
 import hierarchy
 
-FITS, WAITS, NEVER = "fits", "waits", "never"
 # The command of a run that a start alone tells.
 ANY = "?"
 MODES = ("included", "manual", "ignored")
@@ -305,10 +304,15 @@ def lost_of(tree, was, lines, is_torn):
 
 
 def replayed(tree, lines, has_end):
-    """Returns the entries of a station's journal, with those that starts alone tell, and whether there is a gap."""
+    """Returns what a station's journal tells: pairs of the number of a line of its file and an entry.
+
+    What a start alone tells has the line of that start. The second thing returned is the line of a start before which
+    there is a gap, or None.
+    """
     account, entries, at = Account(), [], 0
     while at < len(lines):
-        entry = entry_of(lines[at][1])
+        # (the first line of a file is its head)
+        number, entry = at + 2, entry_of(lines[at][1])
         at += 1
         block = []
         while entry[0] == "booted" and at < len(lines) and lines[at][1].split(" ")[0] in BLOCK:
@@ -318,245 +322,65 @@ def replayed(tree, lines, has_end):
             is_torn = at == len(lines) and not has_end
             lost, is_one = lost_of(tree, account, block, is_torn)
             if not is_one and not is_torn:
-                return entries, True
-            entries += lost if is_one else []
+                return entries, number
+            entries += [(number, it) for it in lost] if is_one else []
             account = Loaded(block).account
             account.modes = {domain: mode for (_, domain), mode in account.modes.items()}
         account.note(tree, entry)
-        entries.append(entry)
-    return entries, False
-
-
-# ---- what fits
-
-
-class Grant:
-    """What a trace says of a domain and its present grant."""
-
-    def __init__(self, epoch=0, holder=None):
-        self.epoch, self.holder, self.is_learned, self.is_gone = epoch, holder, False, False
-        self.orders, self.last, self.work, self.mode = [], 0, None, "included"
-        # (child, epoch, number) of each run as which the work was handed on
-        self.owed = []
-
-
-class Judge:
-    """Takes entries one by one, each only if the trace stays safe with it and none is taken too early."""
-
-    def __init__(self, tree):
-        self.tree = tree
-        self.grants = {domain: Grant() for domain in tree.parent}
-        self.states, self.newest = collections.defaultdict(dict), {}
-        self.shown, self.since, self.boots = {}, set(), {}
-
-    def look(self, entry):
-        """Returns whether an entry fits, waits or never fits, the station that it waits for, and a command."""
-        look = getattr(self, "look_" + entry[0], None)
-        return look(*entry[1:]) if look else (FITS, None, None)
-
-    def look_booted(self, station, boot):
-        return (NEVER if self.boots.get(station, 0) >= boot else FITS), None, None
-
-    def look_granted(self, domain, epoch, holder):
-        is_lawful = epoch % 2 == 1 and (holder in self.tree.operators or holder == self.tree.parent[domain])
-        return (FITS if is_lawful and epoch == self.grants[domain].epoch + 1 else NEVER), None, None
-
-    def look_freed(self, domain, epoch):
-        grant = self.grants[domain]
-        if epoch % 2 == 1 or epoch != grant.epoch + 1:
-            return NEVER, None, None
-        if not grant.is_gone:
-            return WAITS, self.tree.station_of_holder(grant.holder), None
-        return (FITS if grant.work is None else NEVER), None, None
-
-    def look_learned(self, holder, domain, epoch):
-        grant = self.grants[domain]
-        if epoch > grant.epoch:
-            return WAITS, self.tree.keeper[domain], None
-        fits = epoch == grant.epoch and grant.holder == holder and not grant.is_learned
-        return (FITS if fits else NEVER), None, None
-
-    def look_letgo(self, holder, domain, epoch):
-        grant = self.grants[domain]
-        if epoch > grant.epoch:
-            return WAITS, self.tree.keeper[domain], None
-        if (epoch, holder) != (grant.epoch, grant.holder) or not grant.is_learned or grant.is_gone:
-            return NEVER, None, None
-        waits = grant.work is not None or (holder in self.tree.operators and grant.last < len(grant.orders))
-        return (WAITS, self.tree.keeper[domain], None) if waits else (FITS, None, None)
-
-    def look_ordered(self, operator, domain, epoch, number, _command):
-        grant = self.grants[domain]
-        is_held = (epoch, operator) == (grant.epoch, grant.holder) and grant.is_learned and not grant.is_gone
-        return (FITS if is_held and number == len(grant.orders) + 1 else NEVER), None, None
-
-    def backing(self, domain, epoch, number, command):
-        """Looks for what stands behind a run, all the way up."""
-        grant = self.grants[domain]
-        holder = grant.holder
-        if grant.epoch != epoch or holder is None:
-            return NEVER, None, None
-        station = self.tree.station_of_holder(holder)
-        if not grant.is_learned:
-            return WAITS, station, None
-        if grant.is_gone:
-            return NEVER, None, None
-        if holder in self.tree.operators:
-            if number > len(grant.orders):
-                return WAITS, station, None
-            ordered = grant.orders[number - 1]
-            return (FITS if command in (ANY, ordered) else NEVER), None, ordered
-        above = self.grants[holder]
-        is_at_work = above.work is not None and command in (ANY, above.work)
-        if grant.mode == "manual" or not is_at_work or (domain, epoch, number) not in above.owed:
-            return WAITS, station, None
-        how, whom, _ = self.backing(holder, above.epoch, above.last, above.work)
-        return how, whom, above.work
-
-    def look_ran(self, domain, epoch, number, command):
-        grant = self.grants[domain]
-        if epoch != grant.epoch or number != grant.last + 1 or grant.work is not None:
-            return NEVER, None, None
-        return self.backing(domain, epoch, number, command)
-
-    def look_settled(self, domain, epoch, number, _outcome):
-        grant = self.grants[domain]
-        if (epoch, number) != (grant.epoch, grant.last) or grant.work is None:
-            return NEVER, None, None
-        for child, its_epoch, its_number in grant.owed:
-            below = self.grants[child]
-            at = (below.epoch, below.last)
-            if at < (its_epoch, its_number) or (at == (its_epoch, its_number) and below.work is not None):
-                return WAITS, self.tree.keeper[child], None
-        return FITS, None, None
-
-    def look_passed(self, thing, version, _state):
-        return (FITS if version > self.newest.get(thing, (0, -1)) else NEVER), None, None
-
-    def look_showed(self, station, thing, version, state):
-        if version not in self.states[thing]:
-            is_over = version < self.newest.get(thing, (0, -1))
-            return (NEVER, None, None) if is_over else (WAITS, self.tree.keeper[thing], None)
-        last = self.shown.get((station, thing))
-        is_old = last is not None and (version < last or (version == last and (station, thing) in self.since))
-        return (NEVER if is_old or self.states[thing][version] != state else FITS), None, None
-
-    def take(self, entry):
-        """Takes an entry that fits."""
-        kind, *rest = entry
-        if kind == "booted":
-            self.boots[rest[0]] = rest[1]
-            self.since = {pair for pair in self.since if pair[0] != rest[0]}
-        elif kind in ("granted", "freed"):
-            self.grants[rest[0]] = Grant(rest[1], rest[2] if kind == "granted" else None)
-        elif kind == "learned":
-            self.grants[rest[1]].is_learned = True
-        elif kind == "letgo":
-            self.grants[rest[1]].is_gone = True
-        elif kind == "ordered":
-            self.grants[rest[1]].orders.append(rest[4])
-        elif kind == "mode":
-            self.grants[rest[0]].mode = rest[1]
-        elif kind == "ran":
-            self.take_run(*rest)
-        elif kind == "settled":
-            self.grants[rest[0]].work = None
-        elif kind == "passed":
-            self.newest[rest[0]] = rest[1]
-            self.states[rest[0]][rest[1]] = rest[2]
-        elif kind == "showed":
-            self.shown[rest[0], rest[1]] = rest[2]
-            self.since.add((rest[0], rest[1]))
-
-    def take_run(self, domain, epoch, number, command):
-        if command == ANY:
-            command = self.backing(domain, epoch, number, ANY)[2]
-        grant = self.grants[domain]
-        grant.last, grant.work, grant.owed = number, command, []
-        for child in self.tree.children(domain):
-            below = self.grants[child]
-            is_held = below.holder == domain and below.is_learned and not below.is_gone
-            if is_held and below.mode != "manual" and self.tree.forwards(domain, command, child):
-                grant.owed.append((child, below.epoch, below.last + 1))
-
-
-def judged(tree, journals, ended):
-    """Returns the verdict on journals, `safe`, `open` or `unsafe`, and how many entries there are.
-
-    `ended` has the stations whose nodes ended by themselves, so that their journals tell no more.
-    """
-    judge = Judge(tree)
-    left, gaps = {}, set()
-    for station, lines in journals.items():
-        entries, has_gap = replayed(tree, lines, station in ended)
-        left[station] = collections.deque(entries)
-        gaps |= {station} if has_gap else set()
-    count = sum(map(len, left.values()))
-    is_moved = True
-    while is_moved:
-        is_moved = False
-        for entries in left.values():
-            while entries and judge.look(entries[0])[0] == FITS:
-                judge.take(entries.popleft())
-                is_moved = True
-    holds = {station: judge.look(entries[0]) for station, entries in left.items() if entries}
-    fates = {fate_of(holds, gaps, ended, station) for station in left}
-    return "unsafe" if "unsafe" in fates else "open" if fates - {"safe"} else "safe", count
-
-
-def fate_of(holds, gaps, ended, station):
-    """Follows what the first entry of a station's journal waits for."""
-    at, seen = station, set()
-    while at in holds:
-        how, whom, _ = holds[at]
-        if how == NEVER:
-            return "unsafe" if at == station else "behind"
-        if at in seen:
-            return "unsafe"
-        seen.add(at)
-        at = whom
-    if at == station:
-        return "open" if station in gaps else "safe"
-    return "unsafe" if at in ended and at not in gaps else "open"
+        entries.append((number, entry))
+    return entries, None
 
 
 # ---- one entry forged
 
+# What is forged, and of which entries.
+ASKED = ("granted", "freed", "ran", "learned", "letgo", "ordered", "showed", "passed")
+WAYS = {"twice": ASKED, "gone": ASKED,
+        "number": ("granted", "freed", "ran", "learned", "letgo", "ordered", "showed", "passed"),
+        "holder": ("granted",), "command": ("ordered", "ran"), "state": ("passed", "showed")}
 
-def others(tree, entry):
+
+# The place of an entry's number among its words: an epoch, the number of a command, or a version.
+NUMBERS = {"granted": 2, "freed": 2, "learned": 3, "letgo": 3, "ran": 3, "ordered": 4, "showed": 3, "passed": 2}
+
+
+def numbers(kind, old):
+    """Returns other numbers than one of an entry: the next of its kind, and the one before if there is one."""
+    if isinstance(old, tuple):
+        return [(old[0], old[1] + 1)] + [(old[0], old[1] - 1)] * (old[1] > 0)
+    step = 2 if kind in ("granted", "freed", "learned", "letgo") else 1
+    return [old + step] + [old - step] * (old > step)
+
+
+def others(tree, entry, way):
     """Returns the ways in which one thing that an entry says is said otherwise, with names that the tree has."""
-    kind, *rest = entry
-    action = lambda command: [("do", name) for name in tree.actions if ("do", name) != command]
-    if kind == "granted":
-        return [(kind, rest[0], rest[1], other) for other in [*tree.operators, *tree.parent] if other != rest[2]]
-    if kind == "freed":
-        return [(kind, rest[0], rest[1] + 2)]
-    if kind in ("learned", "letgo"):
-        return [(kind, *rest[:2], epoch) for epoch in (rest[2] + 2, rest[2] - 2) if epoch > 0]
-    if kind == "ran":
-        return [(kind, *rest[:3], other) for other in action(rest[3])] + [(kind, *rest[:2], rest[2] + 1, rest[3])]
-    if kind == "ordered":
-        return [(kind, *rest[:4], other) for other in action(rest[4])]
-    if kind in ("showed", "passed"):
-        return [(kind, *rest[:-1], other) for other in tree.states if other != rest[-1]]
-    return []
+    if way == "number":
+        place = NUMBERS[entry[0]]
+        return [(*entry[:place], it, *entry[place + 1:]) for it in numbers(entry[0], entry[place])]
+    names = {"holder": [*tree.operators, *tree.parent], "command": [("do", name) for name in tree.actions],
+             "state": tree.states}[way]
+    return [(*entry[:-1], name) for name in names if name != entry[-1]]
 
 
-def forged(rng, tree, journals, kinds):
-    """Returns what was done to one entry of these kinds, and the journals with it; None if there is no such entry."""
-    places = [(station, number) for station, lines in journals.items() for number, (_, words) in enumerate(lines)
-              if words.split(" ")[0] in kinds]
-    if not places:
-        return None
-    station, number = rng.choice(places)
-    boot, words = journals[station][number]
-    made = {name: list(lines) for name, lines in journals.items()}
-    way = rng.choice(("gone", "twice", "other"))
-    choices = others(tree, entry_of(words))
-    if way == "gone":
-        del made[station][number]
-    elif way == "twice" or not choices:
-        made[station].insert(number + 1, (boot, words))
-    else:
-        made[station][number] = (boot, text_of(rng.choice(choices)))
-    return "%s: %s" % (way, words), made
+def places_of(journals, kind):
+    """Returns where entries of a kind stand: of states that are passed, those that a station was shown."""
+    places = [(station, number, words) for station, lines in journals.items() for number, (_, words) in enumerate(lines)
+              if words.split(" ")[0] == kind]
+    if kind != "passed":
+        return places
+    shown = {words.split(" ", 2)[2] for lines in journals.values() for _, words in lines if words.startswith("showed ")}
+    return [it for it in places if it[2].split(" ", 1)[1] in shown]
+
+
+def forgeries(rng, tree, journals, way, kind, most):
+    """Returns journals with one entry of a kind forged in a way, each with what was done, at this many drawn places."""
+    found, places = [], places_of(journals, kind)
+    for station, number, words in rng.sample(places, min(most, len(places))):
+        boot, made = journals[station][number][0], {name: list(lines) for name, lines in journals.items()}
+        choices = {"twice": [[words, words]], "gone": [[]]}.get(way)
+        choices = choices or [[text_of(it)] for it in others(tree, entry_of(words), way)]
+        if choices:
+            new = rng.choice(choices)
+            made[station][number:number + 1] = [(boot, it) for it in new]
+            found.append((made, "%s: %s" % (words, new)))
+    return found

@@ -14,6 +14,8 @@ from running import DEADLINE, at_last, is_so
 
 # The question that a screen asks every two seconds, which is no order.
 QUESTION = b"@modes modes\n"
+# How many orders are given at once, and how often a screen is started whose keys are compared.
+AT_ONCE, STARTS = 16, 3
 
 
 class FakeConsole:
@@ -129,7 +131,7 @@ def check_refused(console, screen, key, subtests):
         with subtests.test("%r, no" % line):
             assert give(line) == NO_ORDER
     with subtests.test("a body too long, no"):
-        assert give("order ANN take DCS" + " " * 50)[0] == 413
+        assert give("order ANN take DCS" + " " * 83)[0] == 413
     with subtests.test("GET gives none"):
         assert give(good, method="GET")[0] == 200
     for method in ("PUT", "DELETE", "PATCH", "OPTIONS"):
@@ -165,6 +167,37 @@ def test_orders(folder, tree, console, start_screen, subtests):
         assert [give("order BOB take TPC", host=local, origin="http://" + local), console.hear()] == [
             GIVEN, "@2 order BOB take TPC"]
     check_answered(console, screen, subtests)
+
+
+def test_many_at_once(folder, tree, console, start_screen, subtests):
+    """Orders that are given at once, all of which the screen writes in one piece: each is sent once, and in order."""
+    screen = start_screen(tree, screens.store_of(folder, "screen"), more=("--endless", "--orders", console.place))
+    assert screen.is_up()
+    console.meet()
+    assert screen.has_console()
+    lines = ["order ANN ask DCS", "order BOB ask TPC"] * (AT_ONCE // 2)
+    sent = "".join("POST /api/orders HTTP/1.1\r\nHost: %s\r\nOrigin: http://%s\r\nAuthorization: %s\r\n"
+                   "Connection: %s\r\nContent-Length: %d\r\n\r\n%s"
+                   % (screen.host, screen.host, screen.key(), "close" if place == AT_ONCE else "keep-alive", len(line),
+                      line) for place, line in enumerate(lines, 1))
+    told = screens.answers(screen.exchange(sent.encode()))
+    with subtests.test("each is on its way"):
+        assert told == [GIVEN] * AT_ONCE
+    with subtests.test("each is sent, in order"):
+        assert [console.hear() for _ in lines] == ["@%d %s" % it for it in enumerate(lines, 1)]
+    with subtests.test("and once"):
+        assert console.hears_nothing()
+
+
+def test_keys(folder, tree, console, start_screen):
+    """The key of a page is another one at each start of its screen."""
+    keys = []
+    for _ in range(STARTS):
+        screen = start_screen(tree, screens.store_of(folder, "screen"), more=("--endless", "--orders", console.place))
+        assert screen.is_up()
+        keys.append(screen.key())
+        screen.end()
+    assert len(set(keys)) == STARTS
 
 
 PROXY = "https://daq.example"
@@ -332,6 +365,62 @@ def test_withdraw(folder, tree, console, start_screen, subtests):
         assert at_last(lambda: fates(screen), wanted) == wanted
 
 
+# What follows an order that no name is.
+NO_NAMES = [
+    b" #", b" # ", b"#", b"# MARIA", b" #MARIA", b"#MARIA", b" ## MARIA", b" # MARIA # PAUL", b" # MARIA#", b" # #",
+    b" # " + b"x" * 33, b' # "MARIA"', b" # MARI\\A", b" # MARI\xc3\x84", b" # MARIA\n", b" # MARIA\0", b" # MARI\tA",
+    b" MARIA", b" name MARIA"]
+# Names, the shortest and the longest and those with every byte that one may have among them.
+NAMES = ["MARIA", "x", "x" * 32, "Maria Rossi (day)", "!$%&'()*+,-./0123456789:;<=>?@", "[]^_`{|}~ abcz", " M "]
+
+
+def givers(screen):
+    """Returns of each order its line, and who has given it."""
+    return [(it["line"], it["by"]) for it in screen.orders()]
+
+
+def test_names(folder, tree, console, start_screen, subtests):
+    """A remark before an order tells the console who gives it, and all are told. An order without a name is as ever."""
+    screen = start_screen(tree, screens.store_of(folder, "screen"), more=("--endless", "--orders", console.place))
+    console.meet()
+    with subtests.test("the console is there"):
+        assert screen.has_console()
+    order = "order ANN take DCS"
+    for name in NO_NAMES:
+        with subtests.test("%r, no" % name):
+            assert [screen.give(order.encode() + name), screen.give(b"withdraw 1" + name)] == [NO_ORDER] * 2
+    for line in ["# MARIA", " # MARIA", "withdraw # MARIA", "order ANN # MARIA", "order EVE take DCS # MARIA"]:
+        with subtests.test("%r, no" % line):
+            assert screen.give(line) == NO_ORDER
+    for number, name in enumerate(NAMES, 1):
+        with subtests.test("%r" % name):
+            assert screen.give("%s # %s" % (order, name)) == GIVEN
+            assert [console.hear(), console.hear()] == ["# @%d name %s" % (number, name), "@%d %s" % (number, order)]
+    number = len(NAMES) + 1
+    with subtests.test("nobody: the order alone"):
+        assert [screen.give(order), console.hear()] == [GIVEN, "@%d %s" % (number, order)]
+    with subtests.test("a line that withdraws has a name too"):
+        assert [screen.give("withdraw 1 # PAUL"), console.hear(), console.hear()] == [
+            GIVEN, "# @%d name PAUL" % (number + 1), "@%d withdraw 1" % (number + 1)]
+    with subtests.test("each is told with its own"):
+        wanted = [(order, it) for it in [*NAMES, None]] + [("withdraw 1", "PAUL")]
+        assert at_last(lambda: givers(screen), wanted) == wanted
+    console.say("@1 told ANN take DCS 0")
+    ended = (order, False, "told ANN take DCS 0", 0, "done")
+    with subtests.test("it is answered as any"):
+        assert at_last(lambda: fates(screen)[0], ended) == ended
+    # 100 bytes are the most: here the order has 65 with the blanks after it
+    longest = order + " " * 47
+    with subtests.test("the longest"):
+        assert screen.give("%s # %s" % (longest, "x" * 32)) == GIVEN
+        assert [console.hear(), console.hear()] == ["# @%d name %s" % (number + 2, "x" * 32),
+                                                    "@%d %s" % (number + 2, longest)]
+    with subtests.test("one byte more, no"):
+        assert screen.give("%s  # %s" % (longest, "x" * 32))[0] == 413
+    with subtests.test("nothing else was sent"):
+        assert console.hears_nothing()
+
+
 NOTED = (200, b"acknowledged")
 NO_ALARM = (400, b"this is no alarm of the tree and an operator of it")
 # Lines that acknowledge nothing of the worked tree, or not by an operator of it.
@@ -444,6 +533,34 @@ def test_shut(folder, tree, start_node, start_screen, subtests):
             assert told == SHOWN
     with subtests.test("nor done"):
         assert node.ask("order ANN ask DCS").startswith("told ANN ask DCS free")
+
+
+def typed_in(folder):
+    """Returns what is typed by the journals of a folder, without the numbers of the connections."""
+    found = []
+    for name in sorted(os.listdir(folder)):
+        with open(os.path.join(folder, name), encoding="ascii") as file:
+            found += [line.split(" ", 5)[5].rstrip("\n") for line in file if line.split(" ")[3:4] == ["typed"]]
+    return found
+
+
+def test_names_at_a_real_console(folder, tree, start_node, start_screen, subtests):
+    """A real console says nothing to a name, answers the order, and its node's journal has both."""
+    where, night = os.path.join(folder, "console"), os.path.join(folder, "night")
+    start_node(tree, "A", screens.store_of(folder, "A"), "--endless", "--console", where, "--journal", night)
+    screen = start_screen(tree, screens.store_of(folder, "screen"), more=("--endless", "--orders", where))
+    with subtests.test("the console is there"):
+        assert screen.is_up() and screen.has_console()
+    for order, code in [("ANN take DCS # MARIA", 0), ("ANN take DCS # PAUL", 23), ("ANN drop DCS", 0)]:
+        with subtests.test("%s ends with %d" % (order, code)):
+            assert screen.order(order) == code
+    with subtests.test("who gave them is told"):
+        assert givers(screen) == [
+            ("order ANN take DCS", "MARIA"), ("order ANN take DCS", "PAUL"), ("order ANN drop DCS", None)]
+    wanted = ["# @1 name MARIA", "@1 order ANN take DCS", "# @2 name PAUL", "@2 order ANN take DCS",
+              "@3 order ANN drop DCS"]
+    with subtests.test("and is in the journal"):
+        assert at_last(lambda: typed_in(night), wanted) == wanted
 
 
 def test_a_real_console(folder, tree, start_node, start_screen, subtests):

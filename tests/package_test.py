@@ -137,6 +137,11 @@ def test_install(folder, subtests):
     for path in INSTALLED + ["share/doc/lunskaf/" + it for it in documents.documents() if it.startswith("docs/")]:
         with subtests.test("there is %s" % path):
             assert path in found
+    for document in documents.documents():
+        folder_of = os.path.dirname(os.path.join("share/doc/lunskaf", document))
+        for picture in re.findall(r"!\[[^\]]*\]\(([^)]+)\)", text_of(document)):
+            with subtests.test("the picture %s of %s is there" % (picture, document)):
+                assert os.path.normpath(os.path.join(folder_of, picture)) in found
     modes = {path: os.stat(os.path.join(top, path)).st_mode & 0o777 for path in found}
     with subtests.test("the program and its demo alone may be run"):
         programs = ("bin/smi", "bin/smi-demo")
@@ -193,10 +198,11 @@ COMPLETED = [
     (["smi", "node", "--turns", "5", "three.tree", "B"], ["B"]),
     (["smi", "node", "nowhere", ""], []),
     (["smi", "node", "-"], ["--accept-older", "--console", "--endless", "--journal", "--journal-sync", "--open",
-                            "--sources", "--turns"]),
+                            "--service", "--sources", "--turns"]),
     (["smi", "node", "--journal", "night", "three.tree", "B"], ["B"]),
     (["smi", "screen", "-"], ["--accept-older", "--endless", "--history", "--history-days", "--host", "--http",
-                              "--open", "--orders", "--origin", "--sources", "--style", "--token", "--turns"]),
+                              "--open", "--orders", "--origin", "--service", "--sources", "--style", "--token",
+                              "--turns"]),
     (["smi", "check", "--"], ["--lint"]), (["smi", "audit", "-"], ["--trace"]),
     (["smi", "audit", "three.tree", "worked.t"], ["worked.tree"]),
     (["smi", "screen", "--http", "127.0.0.1:80", "three.tree", "B"], ["B"]),

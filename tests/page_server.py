@@ -124,10 +124,11 @@ class MadeUp:
                 "domains": [change(it, since) for it in picture["domains"]],
                 "devices": [change(it, since) for it in picture["devices"]]}
 
-    def take_order(self, line):
+    def take_order(self, text):
+        line, _, name = text.partition(" # ")
         with self.lock:
-            self.orders.append({"number": len(self.orders) + 1, "line": line, "seconds": 0, "waits": True,
-                                "answer": None, "code": None, "words": None, "at": time.monotonic()})
+            self.orders.append({"number": len(self.orders) + 1, "line": line, "by": name or None, "seconds": 0,
+                                "waits": True, "answer": None, "code": None, "words": None, "at": time.monotonic()})
 
     def end_order(self, number, code, words="done"):
         """Ends an order with a code."""

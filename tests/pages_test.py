@@ -13,6 +13,8 @@ WELL = ([], [], 0)
 # The boot of station 1, once it has begun and once it has begun again.
 FIRST, SECOND = [((1, 0, 0), "0200000000000001")], [((1, 0, 0), "0200000000000002")]
 SHORT = 512
+# How many bytes a store has that is far longer than usual.
+LONG = 2_000_000
 
 
 def pages_of(path):
@@ -57,3 +59,16 @@ def test_a_store_with_pages_of(path, begun, size):
         file.execute(stores.TABLE)
     file.close()
     assert begun() == (WELL, FIRST, [size, "wal"])
+
+
+def test_a_long_store(path, begun):
+    """A store of some megabytes, nearly all of them free pages, is begun again on its rows."""
+    begun()
+    with sqlite3.connect(path) as file:
+        file.execute("INSERT INTO stable_rows VALUES (2, 1, 0, zeroblob(%d))" % LONG)
+        file.commit()
+        file.execute("DELETE FROM stable_rows WHERE station = 2")
+    file.close()
+    assert os.path.getsize(path) > LONG
+    assert begun() == (WELL, SECOND, [SHORT, "wal"])
+    assert os.path.getsize(path) > LONG

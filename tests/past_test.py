@@ -1,68 +1,23 @@
 """The past of the page: the time line, the entries in plain words, the page as of an earlier time, and the summary.
 
-The page runs in headless Chromium over a made-up history (tests/page_server.py), at a time that stays: six o'clock in
-the morning of a shift that began at ten. What is expected is written by hand.
+The page runs in headless Chromium over a made-up history (tests/nights.py). What is expected is written by hand.
 """
 
-import calendar
 import json
 import os
 import shutil
-import threading
-import time
 
 import pytest
 
 import browsers
 import page
-import page_server
 import running
-from browser import LEADER, TOP, Hand, shows
+from browser import LEADER, TOP, Hand
+from nights import BANDS, DAY, LISTED, MINUTE, NOW, UP, WORDS, at
 from running import at_last
 
 pytestmark = pytest.mark.skipif(not browsers.program(), reason="there is no browser (Debian's chromium)")
 NODE = shutil.which("node")
-NOW = 1000 * calendar.timegm(time.strptime("2026-11-30 06:00:00", "%Y-%m-%d %H:%M:%S"))
-# The clock of the page, which stays, and a count of its tones, which nobody hears.
-CLOCK = """Date.now = () => %d; window.tones = 0;
-  addEventListener("DOMContentLoaded", () => { ring = () => { window.tones += 1; }; });""" % NOW
-MINUTE, DAY = 60_000, 86_400_000
-# How soon the first view of 100,000 entries has to be there, in milliseconds: half a second, and more on a machine that
-# others use.
-MANY, SOON = 100_000, 2_000
-UP = ["PIXEL_HV", "PIXEL", "TRK", TOP]
-
-
-def at(clock):
-    """Returns a time of the shift: an hour after noon is one of the evening before."""
-    hour, minute, second = (int(it) for it in (clock + ":00").split(":")[:3])
-    begun = NOW - 6 * 60 * MINUTE - (DAY if hour >= 12 else 0)
-    return begun + hour * 60 * MINUTE + minute * MINUTE + second * 1000
-
-
-def shift(names):
-    """Returns the history of a shift: two trips, a silence, a change of hands, and four orders."""
-    told = [(at("21:00"), "board %s 1.1 READY" % name) for name in names]
-    for clock, text in [
-            ("21:00", "record EXPERIMENT operator SHIFT_LEADER 1 0 settled 0"),
-            ("21:00", "record TRK domain EXPERIMENT 1 3 settled 0"),
-            ("21:00", "record MUO domain EXPERIMENT 1 0 settled 0"),
-            ("22:30", "board PIXEL_HV7 1.2 ERROR"), *(("22:30", "board %s 1.2 ERROR" % it) for it in UP),
-            ("22:31", "acknowledged device PIXEL_HV7 SHIFT_LEADER"),
-            ("22:36", "board PIXEL_HV7 1.3 READY"), *(("22:36", "board %s 1.3 READY" % it) for it in UP),
-            ("23:10", "given 1 order SHIFT_LEADER do TRK START"), ("23:10", "record TRK domain EXPERIMENT 1 4 busy 0"),
-            ("23:11", "record TRK domain EXPERIMENT 1 4 settled 6"),
-            ("23:11", "ended 1 told SHIFT_LEADER do TRK START 6"),
-            ("00:26", "silent MUO"), ("00:46", "heard MUO"),
-            ("02:00", "record TRK free 1 4 settled 6"), ("02:05", "record TRK operator TRK_EXPERT 2 0 settled 0"),
-            ("02:59", "given 2 order TRK_EXPERT do TRK START"), ("03:00", "board TRK 1.4 RUNNING"),
-            ("03:00", "record TRK operator TRK_EXPERT 2 1 settled 0"),
-            ("03:00", "ended 2 told TRK_EXPERT do TRK START 0"),
-            ("04:00", "given 3 order SHIFT_LEADER do MUO START"), ("04:01", "given 4 withdraw 3"),
-            ("04:01", "ended 3 withdrawn"), ("04:01", "ended 4 withdrawn 3"),
-            ("05:00", "board PIXEL_HV7 1.4 ERROR"), ("05:00:30", "board PIXEL_HV7 1.5 READY")]:
-        told.append((at(clock), text))
-    return told
 
 
 def midnight(names):
@@ -75,25 +30,6 @@ def midnight(names):
     return [(at("00:00"), text) for text in told]
 
 
-WORDS = """05:00:30 PIXEL_HV7 is READY
-05:00:00 PIXEL_HV7 is ERROR
-04:01:00 withdrawal of do MUO START of SHIFT_LEADER: done
-04:01:00 do MUO START of SHIFT_LEADER: withdrawn
-04:01:00 withdrawal of do MUO START of SHIFT_LEADER was asked for
-04:00:00 SHIFT_LEADER ordered do MUO START
-03:00:00 do TRK START of TRK_EXPERT ended with 0: done
-03:00:00 command 1 of TRK ended with 0
-03:00:00 TRK is RUNNING
-02:59:00 TRK_EXPERT ordered do TRK START
-02:05:00 TRK held by TRK_EXPERT
-02:00:00 TRK is free
-00:46:00 station of MUO is heard again
-00:26:00 station of MUO is silent
-2026-11-29 23:11:00 do TRK START of SHIFT_LEADER ended with 6: a child on the way is not held or is manual
-2026-11-29 23:11:00 command 4 of TRK ended with 6
-2026-11-29 23:10:00 command 4 of TRK is at work
-2026-11-29 23:10:00 SHIFT_LEADER ordered do TRK START
-2026-11-29 22:36:00 EXPERIMENT is READY""".split("\n")
 SUMMARY = """tree 2026, all, 2026-11-29 22:00:00 to 2026-11-30 06:00:00, local time
 
 Who held what
@@ -120,87 +56,6 @@ Alarms
 Silent stations
   MUON  00:26:00 to 00:46:00  0:20:00
 """
-LISTED = "[...document.querySelectorAll('#past-list li')].map((li) => li.textContent)"
-BANDS = """[...document.querySelectorAll("#time-line [data-key='track %s'] > *")].map((e) => [
-  e.className.split(" ").pop(), e.dataset.state || "", e.style.left, e.style.width, e.title])"""
-
-
-class Night:
-    """A browser at the page of a detector after a shift."""
-
-    def __init__(self, **how):
-        self.screen = page_server.MadeUp(page_server.tree_of(page_server.DETECTOR), **how)
-        self.names = [it["name"] for it in self.screen.tree["domains"] + self.screen.tree["devices"]]
-        self.screen.show(dict.fromkeys(self.names, "READY"), 60)
-        holders = {it["name"]: it["parent"] for it in self.screen.tree["domains"]}
-        self.screen.tell({**holders, TOP: LEADER, "INFRA": None})
-        self.screen.past = shift(self.names)
-        self.server = page_server.PageServer(self.screen)
-        self.browser = browsers.Browser(browsers.program())
-        self.browser.call("Emulation.setTimezoneOverride", timezoneId="UTC")
-        self.browser.before_each_page(CLOCK)
-        self.load()
-
-    def begin(self):
-        """Has all be as after the shift, and nothing chosen."""
-        self.screen.past, self.screen.saved, self.screen.keeps_history = shift(self.names), 0, True
-        self.screen.is_old, self.screen.wait = False, lambda query: None
-        self.screen.show(dict.fromkeys(self.names, "READY"), 60)
-        self.browser.run("localStorage.clear()")
-        self.browser.errors.clear()
-        self.load()
-        self.browser.run("log = []")
-
-    def load(self):
-        self.browser.open(self.server.url)
-        assert self.browser.waits_for("domains.size && !!picture") is not None and shows(self.browser, TOP, "READY")
-
-    def click(self, name):
-        self.browser.run("document.getElementById('%s').click()" % name)
-
-    def open(self):
-        self.click("past-open")
-        assert self.browser.waits_for("isWhole && document.querySelectorAll('#past-list li').length", 10) is not None
-
-    def until(self, end):
-        """Chooses an end, and waits until what was then is there."""
-        self.screen.asked.clear()
-        self.types("past-until", end)
-        said = "until %s, not until now" % end.replace("T", " ")
-        assert self.browser.waits_for("isWhole && by('past-old').textContent.includes('%s')" % said, 10) is not None
-
-    def text(self, name):
-        return self.browser.run("document.getElementById('%s').textContent" % name)
-
-    def look(self, words):
-        """Clicks the entry of these words."""
-        self.browser.run("[...document.querySelectorAll('#past-list button')]"
-                         ".find((b) => b.textContent === '%s').click()" % words)
-
-    def types(self, name, text):
-        self.browser.run("{ const e = document.getElementById('%s'); e.value = '%s';"
-                         " for (const it of ['input', 'change']) e.dispatchEvent(new Event(it)); }" % (name, text))
-
-    def state(self, domain):
-        return self.browser.run("document.querySelector('#main [data-domain=%s] .state').textContent" % domain)
-
-    def end(self):
-        self.browser.end()
-        self.server.end()
-
-
-@pytest.fixture(scope="module")
-def made():
-    it = Night()
-    yield it
-    it.end()
-
-
-@pytest.fixture
-def night(made):
-    """A page after a shift, with the past not open yet."""
-    made.begin()
-    return made
 
 
 def test_entries(night, subtests):
@@ -430,233 +285,6 @@ def test_since(night, subtests):
         assert browser.errors == []
 
 
-def day(text):
-    """Returns a time of a day, as 2026-11-20 06:00."""
-    return 1000 * calendar.timegm(time.strptime(text, "%Y-%m-%d %H:%M"))
-
-
-def ten_days(names):
-    """Returns the history of some days before the shift, and of the shift."""
-    return [(day("2026-11-18 12:00"), "board TRK 1.1 OFF"),
-            (day("2026-11-19 00:00"), "since %d board TRK 1.1 OFF" % day("2026-11-18 12:00")),
-            (day("2026-11-19 00:00"), "since %d board CAL 1.1 READY" % day("2026-11-18 11:00")),
-            (day("2026-11-19 23:00"), "board TRK 1.2 READY"),
-            (day("2026-11-20 00:00"), "since %d board TRK 1.2 READY" % day("2026-11-19 23:00")),
-            (day("2026-11-20 05:00"), "board TRK 1.3 ERROR"),
-            # in the second of the end, but after it, and later
-            (day("2026-11-20 06:00") + 500, "board TRK 1.4 READY"), (day("2026-11-20 06:01"), "board TRK 1.5 OFF"),
-            (day("2026-11-25 05:30"), "board TRK 1.6 STANDBY"), *shift(names)]
-
-
-# What is listed of the eight hours until six o'clock of 20 November.
-OLD_WORDS = ["2026-11-20 05:00:00 TRK is ERROR", "2026-11-19 23:00:00 TRK is READY"]
-# How these eight hours are asked for: from the midnight before ten in the evening, and until six.
-OLD_FROM, OLD_TO = "from=1795046400", "to=1795154400"
-
-
-def test_until(night, subtests, monkeypatch):
-    """The past until an earlier end is loaded by itself, is never said to be now, and stays until now is chosen."""
-    browser, screen = night.browser, night.screen
-    screen.past = ten_days(night.names)
-    night.open()
-    with subtests.test("at first the end is now"):
-        assert [browser.run("by('past-until-now').getAttribute('aria-pressed')"), night.text("past-old")] == ["true", ""]
-    monkeypatch.setattr(page_server, "LOOKED_AT", 2)
-    night.until("2026-11-20T06:00")
-    asked = [it for it in screen.asked if OLD_FROM in it or OLD_TO in it]
-    with subtests.test("what is asked: from a midnight, then after what was looked at, until there is more than the end"):
-        assert asked == [OLD_FROM + "&" + OLD_TO, "after=3&" + OLD_TO, "after=5&" + OLD_TO]
-    with subtests.test("what is said of it"):
-        assert [night.text(it) for it in ("past-old", "past-said", "past-shown")] == [
-            "the 8 hours until 2026-11-20 06:00, not until now", "", "the page shows now"]
-        assert browser.run("[document.querySelector('#time-line ol').getAttribute('aria-label'),"
-                           " by('past-until-now').getAttribute('aria-pressed')]") == [
-                               "time line of all until 2026-11-20 06:00:00", "false"]
-    with subtests.test("the entries of these hours, with their days, and none beyond the end"):
-        assert browser.run(LISTED) == OLD_WORDS
-        assert browser.run("pastBook.list.map((it) => it.number)") == [2, 3, 4, 5, 6]
-    with subtests.test("the bands of these hours"):
-        assert browser.run(BANDS % "TRK") == [
-            ["band", "OFF", "0%", "12.5%", "OFF from 2026-11-19 22:00:00 to 2026-11-19 23:00:00"],
-            ["band", "READY", "12.5%", "75%", "READY from 2026-11-19 23:00:00 to 2026-11-20 05:00:00"],
-            ["band", "ERROR", "87.5%", "12.5%", "ERROR from 2026-11-20 05:00:00 to 2026-11-20 06:00:00"],
-            ["trip", "", "87.5%", "", "2026-11-20 05:00:00 TRK is ERROR"]]
-    with subtests.test("the page shows now"):
-        assert [night.state("TRK"), night.text("as-of-words")] == ["READY", ""]
-    night.types("past-slider", "500")
-    with subtests.test("a time in the middle"):
-        assert [night.state("CAL"), night.state("TRK"), night.text("as-of-words"), night.text("past-shown")] == [
-            "READY", "READY", "AS OF 2026-11-20 02:00:00, not now", "as of 2026-11-20 02:00:00"]
-    night.types("past-slider", "1000")
-    with subtests.test("the right edge is the end, and not now"):
-        assert [night.state("TRK"), night.text("as-of-words")] == ["ERROR", "AS OF 2026-11-20 06:00:00, not now"]
-    seen = []
-    for button in ("past-before", "past-before", "past-after", "past-after"):
-        night.click(button)
-        seen.append(night.text("past-shown"))
-    with subtests.test("steps"):
-        assert seen == ["as of 2026-11-20 05:00:00", "as of 2026-11-19 23:00:00", "as of 2026-11-20 05:00:00",
-                        "as of 2026-11-20 06:00:00"]
-    night.click("back-to-now")
-    with subtests.test("back to now shows the page as it is, and the past as it was"):
-        assert [night.state("TRK"), night.text("as-of-words"), night.text("past-old"), browser.run(LISTED)] == [
-            "READY", "", "the 8 hours until 2026-11-20 06:00, not until now", OLD_WORDS]
-    screen.past = [*screen.past, (NOW, "board TRK 1.9 OFF")]
-    time.sleep(2.5)
-    with subtests.test("nothing newer is asked for"):
-        assert screen.asked[-1] == asked[-1] and browser.run(LISTED) == OLD_WORDS
-    monkeypatch.setattr(page_server, "LOOKED_AT", 10_000)
-    screen.asked.clear()
-    night.click("past-until-now")
-    with subtests.test("now again"):
-        newest = at_last(lambda: browser.run(LISTED)[:2], ["06:00:00 TRK is OFF", WORDS[0]], 5)
-        assert newest == ["06:00:00 TRK is OFF", WORDS[0]]
-        assert [screen.asked[0], night.text("past-old"), browser.run("by('past-until').value")] == ["", "", ""]
-    with subtests.test("no faults"):
-        assert browser.errors == []
-
-
-def test_until_longer(night, subtests):
-    """A longer time that has ended is asked for again, and a shorter one is there."""
-    browser, screen = night.browser, night.screen
-    screen.past = ten_days(night.names)
-    night.open()
-    night.until("2026-11-25T06:00")
-    with subtests.test("eight hours"):
-        assert browser.run(LISTED) == ["2026-11-25 05:30:00 TRK is STANDBY"]
-    night.types("past-slider", "990")
-    night.types("past-span", "168")
-    with subtests.test("what was looked at is left, since its entries are forgotten"):
-        assert [browser.run("isPast"), browser.waits_for("isWhole", 5) is not None] == [False, True]
-    week = ["2026-11-25 05:30:00 TRK is STANDBY", "2026-11-20 06:01:00 TRK is OFF", "2026-11-20 06:00:00 TRK is READY",
-            *OLD_WORDS, "2026-11-18 12:00:00 TRK is OFF"]
-    with subtests.test("seven days"):
-        assert [browser.run(LISTED), night.text("past-old")] == [
-            week, "the 7 days until 2026-11-25 06:00, not until now"]
-        # 24 November and 18 November, each at 0:00, until 25 November at 6:00
-        assert [it for it in screen.asked if "to=" in it] == ["from=1795478400&to=1795586400",
-                                                              "from=1794960000&to=1795586400"]
-    screen.asked.clear()
-    night.types("past-span", "1")
-    with subtests.test("an hour of it is there"):
-        assert [browser.run(LISTED), night.text("past-old"), screen.asked] == [
-            week[:1], "the hour until 2026-11-25 06:00, not until now", []]
-    night.types("past-span", "168")
-    with subtests.test("and seven days still are"):
-        assert [browser.run(LISTED), browser.run("isWhole"), screen.asked] == [week, True, []]
-
-
-def test_kept_later(night, subtests):
-    """Somebody is told since when entries are kept, if that is later than what was chosen begins."""
-    browser = night.browser
-    night.screen.past = ten_days(night.names)
-    night.open()
-    with subtests.test("all that was chosen is kept"):
-        assert night.text("past-said") == ""
-    night.until("2026-11-18T18:00")
-    with subtests.test("part of it"):
-        assert [night.text("past-said"), browser.run(BANDS % "TRK")] == ["kept since 2026-11-18 12:00", [
-            ["band", "OFF", "0%", "100%", "OFF from 2026-11-18 12:00:00 to 2026-11-18 18:00:00"]]]
-    night.until("2026-11-10T06:00")
-    with subtests.test("nothing of it"):
-        assert [night.text("past-said"), night.text("past-more"), browser.run(LISTED)] == [
-            "kept since 2026-11-18 12:00", "no entries", []]
-    night.screen.past = []
-    night.load()
-    night.click("past-open")
-    with subtests.test("nothing at all"):
-        assert at_last(lambda: night.text("past-more"), "no entries", 5) == "no entries"
-        assert night.text("past-said") == ""
-
-
-def test_late_answer(night, subtests):
-    """An answer that comes after another end was chosen is of no use, and holds nothing up."""
-    browser, screen, goes = night.browser, night.screen, threading.Event()
-    screen.past = ten_days(night.names)
-    night.open()
-    screen.wait = lambda query: OLD_FROM in query and goes.wait(20)
-    night.types("past-until", "2026-11-20T06:00")
-    try:
-        assert browser.waits_for("by('past-old').textContent.includes('2026-11-20')", 5) is not None
-        with subtests.test("it is said that nothing is there yet"):
-            assert [night.text("past-said"), night.text("past-more"), browser.run(LISTED)] == [
-                "entries are on their way", "", []]
-        with subtests.test("no state is drawn of which nothing is known"):
-            assert browser.run(BANDS % "TRK") == []
-        night.until("2026-11-25T06:00")
-        wanted = ["2026-11-25 05:30:00 TRK is STANDBY"]
-        with subtests.test("the other one is there at once"):
-            assert browser.run(LISTED) == wanted
-    finally:
-        goes.set()
-    time.sleep(1.5)
-    with subtests.test("and the late one is not"):
-        assert [browser.run(LISTED), browser.run("pastBook.list.map((it) => it.number)")] == [wanted, [9]]
-    with subtests.test("no faults"):
-        assert browser.errors == []
-
-
-def test_until_coming(night, subtests):
-    """While the entries of an earlier time come, nothing is drawn after the last one that is there."""
-    browser, screen, goes = night.browser, night.screen, threading.Event()
-    screen.past = ten_days(night.names)[:4] + [(day("2026-11-20 01:00") + it, "board CAL 1.%d READY" % (2 + it))
-                                               for it in range(10_000)] + [(day("2026-11-20 05:00"), "board TRK 1.3 OFF")]
-    night.click("past-open")
-    screen.wait = lambda query: query.startswith("after=") and OLD_TO in query and goes.wait(20)
-    night.types("past-until", "2026-11-20T06:00")
-    try:
-        assert browser.waits_for("pastBook.list.length === 10000 && upto === 10001", 10) is not None
-        with subtests.test("up to the last one"):
-            assert at_last(lambda: browser.run(BANDS % "TRK"), None)[1:] == [
-                ["band", "READY", "12.5%", "25.035%", "READY from 2026-11-19 23:00:00 to 2026-11-20 01:00:09"]]
-        night.browser.run("lookAt(placeOf(%d))" % day("2026-11-20 05:30"))
-        with subtests.test("a time that is not there yet is as the last one"):
-            assert night.state("TRK") == "READY"
-    finally:
-        goes.set()
-    assert browser.waits_for("isWhole", 10) is not None
-    with subtests.test("and is right once it is there"):
-        assert [night.state("TRK"), night.text("as-of-words")] == ["OFF", "AS OF 2026-11-20 05:30:00, not now"]
-
-
-def test_older_screen(night, subtests):
-    """An older screen does not begin by a time, and notes nothing at midnight: all that it keeps is loaded."""
-    browser, screen = night.browser, night.screen
-    screen.is_old, screen.past = True, ten_days(night.names)
-    screen.past[1:1] = [(day("2026-11-18 13:00") + it, "board CAL 1.%d READY" % it) for it in range(10_000)]
-    night.open()
-    with subtests.test("all is there"):
-        assert browser.run("pastBook.list.length") == len(screen.past)
-    night.until("2026-11-20T06:00")
-    with subtests.test("what is asked"):
-        assert [it for it in screen.asked if "to=" in it] == [
-            OLD_FROM + "&" + OLD_TO, "after=0&" + OLD_TO, "after=10000&" + OLD_TO]
-    with subtests.test("the same entries"):
-        assert browser.run(LISTED) == OLD_WORDS
-    night.until("2026-11-18T18:00")
-    with subtests.test("since when it is kept, by its entries"):
-        assert night.text("past-said") == "kept since 2026-11-18 12:00"
-
-
-def test_strange_end(night, subtests):
-    """An end that is still to come, or a part of a date, changes nothing."""
-    browser = night.browser
-    night.screen.past = ten_days(night.names)
-    night.open()
-    look = "[by('past-until').classList.contains('strange'), by('past-until').getAttribute('aria-invalid')]"
-    night.types("past-until", "2026-12-01T06:00")
-    with subtests.test("tomorrow"):
-        assert at_last(lambda: browser.run(look), [True, "true"], 5) == [True, "true"]
-        assert [night.text("past-old"), browser.run(LISTED)[0]] == ["", WORDS[0]]
-    night.until("2026-11-20T06:00")
-    with subtests.test("a time that has been"):
-        assert browser.run(look) == [False, "false"]
-    night.types("past-until", "")
-    with subtests.test("an empty field is now"):
-        assert at_last(lambda: night.text("past-old"), "", 5) == ""
-        assert at_last(lambda: browser.run(LISTED)[:1], WORDS[:1], 5) == WORDS[:1]
-
-
 def test_steps(night, subtests):
     """Buttons go from entry to entry, and after the last one is now."""
     night.open()
@@ -732,26 +360,6 @@ def test_again(night, subtests):
         assert at_last(lambda: night.browser.run(LISTED), ["05:40:00 TRK is OFF"], 5) == ["05:40:00 TRK is OFF"]
 
 
-def test_kept(night, subtests, monkeypatch):
-    """All entries are loaded that are kept, each once, and those that come meanwhile."""
-    monkeypatch.setattr(page_server, "KEPT", 25_500)
-    texts = [(NOW - 60_000 + it, "board TRK 1.%d READY" % it) for it in range(40_000)]
-    night.screen.past = texts[:-3]
-    night.click("past-open")
-    assert night.browser.waits_for("pastBook.list.length", 10) is not None
-    night.screen.past = texts
-    numbers = "[pastBook.list[0].number, pastBook.list.length, pastBook.list.every((it, at) => it.number === at + %d)]"
-    # three of those that were kept at first are not any more, and may be loaded by then
-    assert night.browser.waits_for("isWhole && upto === 40000", 20) is not None
-    with subtests.test("no gap, and none twice"):
-        first, count, is_whole = night.browser.run(numbers % night.browser.run("pastBook.list[0].number"))
-        assert [first + count, is_whole] == [40_001, True] and first in (14_498, 14_501)
-    night.screen.past = texts + [(NOW + it, "board TRK 2.%d READY" % it) for it in range(30_000)]
-    with subtests.test("with a gap it begins again"):
-        assert night.browser.waits_for("isWhole && upto === 70000", 20) is not None
-        assert night.browser.run(numbers % 44_501) == [44_501, 25_500, True]
-
-
 def test_saved(night):
     """Somebody is told if the file of the history is not written any more."""
     night.screen.past = [(at("21:00"), "board TRK 1.0 OFF"),
@@ -802,103 +410,6 @@ def test_keyboard(night, subtests):
     browser.key("Escape")
     with subtests.test("and then closes it"):
         assert [browser.run(here), browser.run("by('past').hidden")] == ["past-open", True]
-
-
-def test_keyboard_until(night, subtests):
-    """The keyboard alone chooses an end, looks at a time of then, and leads back."""
-    browser, here = night.browser, "document.activeElement.id"
-    night.screen.past = ten_days(night.names)
-    browser.key("h")
-    assert browser.waits_for("isWhole && pastBook.list.length", 5) is not None
-    for name in ["Tab", "Tab", *"11202026", *"0600A"]:
-        browser.key(name)
-    with subtests.test("a date is typed"):
-        assert [browser.run(here), browser.run("by('past-until').value")] == ["past-until", "2026-11-20T06:00"]
-    words = "the 8 hours until 2026-11-20 06:00, not until now"
-    with subtests.test("and taken once it is complete"):
-        assert at_last(lambda: night.text("past-old"), words, 5) == words
-        assert at_last(lambda: browser.run(LISTED), OLD_WORDS, 5) == OLD_WORDS
-        assert browser.run(here) == "past-until"
-    with subtests.test("no key of the page is in a date"):
-        assert browser.run("[by('past').hidden, document.activeElement.id]") == [False, "past-until"]
-    for _ in range(8):
-        browser.key("Tab")
-        if browser.run(here) == "past-until-now":
-            break
-    browser.key("Enter")
-    with subtests.test("a button leads to now"):
-        assert at_last(lambda: browser.run(LISTED)[:1], WORDS[:1], 5) == WORDS[:1]
-        assert [night.text("past-old"), browser.run(here)] == ["", "past-until-now"]
-
-
-# A million entries of ten days, and from which of them a midnight is: 125,000 are of the last 30 hours, and 725,000 of
-# the last 174.
-MILLION, MILLION_STEP = 1_000_000, 864
-
-
-@pytest.mark.alone
-def test_million(night, subtests):
-    """Of a million entries only those are loaded that the chosen time needs."""
-    browser, screen, names = night.browser, night.screen, night.names
-    screen.past = [(NOW - (MILLION - it) * MILLION_STEP, "board %s 1.%d %s" % (
-        names[it % len(names)], it, ("READY", "RUNNING")[it // len(names) % 2])) for it in range(MILLION)]
-    screen.asked.clear()
-    night.click("past-open")
-    newer = "after=%d" % MILLION
-
-    def earlier():
-        return [it for it in screen.asked if it != newer]
-
-    def pieces(first, last):
-        return ["after=%d" % it for it in range(first, last - 1, -10_000)]
-
-    with subtests.test("eight hours: from the midnight before ten in the evening"):
-        assert browser.waits_for("isWhole", 30) is not None
-        assert earlier() == ["", *pieces(980_000, 870_000)]
-    night.types("past-span", "24")
-    time.sleep(1.5)
-    with subtests.test("a day begins after the same midnight"):
-        assert len(earlier()) == 13 and night.text("past-said") == ""
-    screen.asked.clear()
-    night.types("past-span", "168")
-    with subtests.test("it is said that there will be more"):
-        assert night.text("past-said") == "earlier entries are on their way"
-    took = browser.waits_for("isWhole", 120)
-    with subtests.test("seven days"):
-        assert took is not None and earlier() == pieces(860_000, 270_000)
-    redraw = browser.run("{ const begun = performance.now(); drawPast(); performance.now() - begun; }")
-    heap = browser.run("performance.memory ? Math.round(performance.memory.usedJSHeapSize / 1048576) : -1")
-    print("seven days of 725,000 entries after %.1f s, drawn in %d ms, %d MiB" % (took or -1, redraw, heap))
-    with subtests.test("drawing again"):
-        assert redraw < SOON
-
-
-@pytest.mark.alone
-def test_many(night, subtests):
-    """Of very many entries the newest are seen soon, and the others come after them."""
-    step = 24 * 60 * MINUTE // MANY
-    states = ["READY", "RUNNING", "ERROR"]
-    names = night.names
-    night.screen.past = [(NOW - (MANY - it) * step, "board %s 1.%d %s" % (
-        names[it % len(names)], it, states[it // len(names) % len(states)])) for it in range(MANY)]
-    first = night.browser.run("""(async () => {
-      const begun = performance.now();
-      document.getElementById("past-open").click();
-      while (!document.querySelectorAll("#past-list li").length) await new Promise((go) => setTimeout(go, 2));
-      return performance.now() - begun; })()""")
-    with subtests.test("the newest"):
-        assert first < SOON
-    whole = night.browser.waits_for("isWhole && pastBook.list.length === %d" % MANY, 30)
-    print("first view after %d ms, all after %.1f s" % (first, whole or -1))
-    with subtests.test("all"):
-        assert whole is not None
-    with subtests.test("at most 500 are listed"):
-        assert night.browser.waits_for("document.querySelectorAll('#past-list li').length === 500", 5) is not None
-        assert night.text("past-more") == "%d more" % (MANY // 3 - 500)
-    redraw = night.browser.run("{ const begun = performance.now(); drawPast(); performance.now() - begun; }")
-    print("all is drawn again in %d ms" % redraw)
-    with subtests.test("drawing again"):
-        assert redraw < SOON
 
 
 def test_telephone(night, subtests):

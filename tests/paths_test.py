@@ -1,8 +1,11 @@
 """Words that are no text, and stores that are read and never written: what the program does with each."""
 
+import contextlib
+import fcntl
 import os
 import sqlite3
 import subprocess
+import termios
 import threading
 
 import pytest
@@ -169,3 +172,84 @@ def test_crowd(program, folder, subtests):
         wrong += [] if is_so else [(out[-200:], err, status, before, count, after)]
     with subtests.test("forty listings beside a writer"):
         assert wrong == []
+
+
+# How many bytes the head of a log has, and how many a row that fills most of a page.
+LOG_HEAD, LONG_ROW = 32, 3_000
+
+
+def moments(folder):
+    """Returns the bytes of a store's file and of its log at two moments, and the rows at the second.
+
+    In between the log was copied into the file and begun again, so the file of the one lacks a page beside the log of
+    the other.
+    """
+    rows = [((1, place, 0), "%02x" % place * LONG_ROW) for place in (1, 2, 3)]
+    path, found = store_in(folder, "moments"), []
+    file = sqlite3.connect(stores.store(path, stores.TABLE, rows[:1]))
+    file.execute("PRAGMA journal_mode = WAL")
+    for key, text in rows[1:]:
+        file.execute("PRAGMA wal_checkpoint(RESTART)")
+        file.execute("INSERT INTO stable_rows VALUES (?, ?, ?, ?)", key + (bytes.fromhex(text),))
+        file.commit()
+        found.append((running.read(path), running.read(path + "-wal")))
+    file.close()
+    return found, rows
+
+
+def open_files(child, path):
+    """Returns how often a process has the file of a path open."""
+    found, there = 0, b"/proc/%d/fd" % child.pid
+    # (it may end, or close one, meanwhile)
+    with contextlib.suppress(OSError):
+        for name in os.listdir(there):
+            with contextlib.suppress(FileNotFoundError):
+                found += os.readlink(os.path.join(there, name)) == path
+    return found
+
+
+def is_taken(listing, pipe, data):
+    """Writes to a pipe, and returns true once a listing has read that, or false if it has ended before."""
+    os.write(pipe, data)
+    left = bytearray(b"?")
+    while any(left) and listing.poll() is None:
+        left = bytearray(4)
+        fcntl.ioctl(pipe, termios.FIONREAD, left)
+    return not any(left)
+
+
+def give_log(listing, path, log, while_open):
+    """Gives a listing its log by a pipe, and does something once the listing has begun to read it.
+
+    Returns once the listing has seen the end of the log, or has ended.
+    """
+    pipe = None
+    while pipe is None and listing.poll() is None:
+        with contextlib.suppress(OSError):
+            pipe = os.open(path, os.O_WRONLY | os.O_NONBLOCK)
+    if pipe is None:
+        return
+    count = 0
+    with contextlib.suppress(BrokenPipeError):
+        if is_taken(listing, pipe, log[:LOG_HEAD]):
+            while_open()
+            count = open_files(listing, path) if is_taken(listing, pipe, log[LOG_HEAD:]) else 0
+    os.close(pipe)
+    while listing.poll() is None and open_files(listing, path) >= count > 0:
+        pass
+
+
+@pytest.mark.parametrize("readings", [pytest.param(0, id="first"), pytest.param(1, id="second")])
+def test_torn(program, folder, readings):
+    """A store whose log is begun again while a listing reads it, after some whole readings, is read once more."""
+    # The log is a pipe, and the path no text: of such a path a listing opens any kind of file.
+    path = os.path.join(os.path.realpath(folder).encode(), b"torn " + ODD)
+    (before, after), rows = moments(folder)
+    running.write(path, before[0])
+    os.mkfifo(path + b"-wal")
+    listing = subprocess.Popen([program, "rows", path], stdout=subprocess.PIPE, stderr=subprocess.PIPE)
+    for _ in range(readings):
+        give_log(listing, path + b"-wal", before[1], lambda: None)
+    while listing.poll() is None:
+        give_log(listing, path + b"-wal", after[1], lambda: running.write(path, after[0]))
+    assert (*listing.communicate(), listing.returncode) == (stores.listing(rows).encode(), b"", 0)

@@ -19,6 +19,8 @@ SEED = 20261201
 MOMENTS, LIVES, ANSWERS = 120, 3, 240
 # How many moments are looked at if syncs are left out, and of how many syncs one is.
 FEW, UNSYNCED = 60, (1, 2)
+# How often a node lives, and how many answers it gives in all, if only what it does to small files is looked at.
+FEW_LIVES, FEW_ANSWERS = 3, 12
 
 
 def played(program, folder, moments, unsynced=0):
@@ -49,6 +51,25 @@ def test_syncs_that_are_left_out_are_seen(program, folder, unsynced):
     judge, told, _, strange = played(program, folder, FEW, unsynced)
     assert strange == [] and told.answers > ANSWERS // 2
     assert any(it.split(": ", 1)[1].startswith("told ") for it in judge.wrong), judge.wrong
+
+
+def is_synced(records, kind):
+    """Returns true if the last thing that was done to a file is that it was synced."""
+    deeds = [it.done for it in records if it.kind == kind and it.done in "WTS"]
+    return deeds[-1:] == ["S"]
+
+
+def test_small_files_are_synced_before_their_names(program, folder, subtests):
+    """A label and a sum are on the disk, whole, before each gets its name."""
+    records, strange = power_cuts.recorded(program, folder, random.Random(SEED), FEW_LIVES, FEW_ANSWERS)
+    assert strange == []
+    for end, least in [("-tree", FEW_LIVES), ("-sum", 1)]:
+        kind = next(it for it, name in power_cuts.NAMES.items() if name == end + "-new")
+        named = [place for place, it in enumerate(records) if (it.done, it.kind) == ("N", kind)]
+        with subtests.test("STORE%s gets its name" % end):
+            assert len(named) >= least
+        with subtests.test("STORE%s is synced before" % end):
+            assert all(is_synced(records[:place], kind) for place in named)
 
 
 def record(done, kind=1, place=0, data=b""):

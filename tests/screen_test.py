@@ -20,6 +20,7 @@ import page as served
 import page_server
 import running
 import screens
+import stores
 
 # How soon another client is answered beside hostile connections, in seconds, on a machine that others may use.
 SOON = 3.0
@@ -247,6 +248,8 @@ def test_picture(folder, world, start_node, start_screen, subtests):
     check_freshness(screen, ("DCS", "TPC"), subtests)
     check_figures(screen, subtests)
     screen.end()
+    with subtests.test("its station has saved nothing but its start"):
+        assert stores.rows_in(screens.store_of(folder, "screen")) == [((3, 0, 0), "0200000000000001")]
     screen = start_screen(tree, screens.store_of(folder, "screen"))
     with subtests.test("a screen that begins again is up"):
         assert screen.is_up()
@@ -345,8 +348,8 @@ def test_hostile(world, subtests):
             ("a head of 100 KB", request("GET / HTTP/1.1\r\nX: " + long, own), {431, 400}),
             ("a hundred fields", request("GET / HTTP/1.1" + "\r\nX: y" * 100, own), {431}),
             ("a target of 20 KB", request("GET /" + long[:20_000] + " HTTP/1.1", own), {414, 431}),
-            ("a long body", request("GET / HTTP/1.1\r\nContent-Length: 70", own, b"x" * 70), {413}),
-            ("a long chunk", request("GET / HTTP/1.1\r\nTransfer-Encoding: chunked", own, b"fff\r\n" + b"x" * 99),
+            ("a long body", request("GET / HTTP/1.1\r\nContent-Length: 101", own, b"x" * 101), {413}),
+            ("a long chunk", request("GET / HTTP/1.1\r\nTransfer-Encoding: chunked", own, b"fff\r\n" + b"x" * 199),
              {413, 400}),
             ("two hosts", request("GET / HTTP/1.1\r\nHost: " + own, own), {400}),
             ("bytes of TLS", bytes.fromhex("16030100a5010000a10303") + b"\0" * 200, {400}),

@@ -121,9 +121,9 @@ class Screen:
         return running.is_so(lambda: self.told_orders()["console"])
 
     def order(self, text):
-        """Gives an order, and returns the code with which it ends, or None if it does not end."""
-        line, before = "order " + text, max([it["number"] for it in self.orders()], default=0)
-        if self.give(line)[0] != 202:
+        """Gives an order, maybe with a name, and returns the code with which it ends, or None if it does not end."""
+        line, before = "order " + text.partition(" # ")[0], max([it["number"] for it in self.orders()], default=0)
+        if self.give("order " + text)[0] != 202:
             return None
 
         def ended():

@@ -6,6 +6,7 @@ same operator replaces it and a start forgets it.
 """
 
 import collections
+import os
 import re
 
 import pytest
@@ -16,6 +17,8 @@ MASK = 2 ** 64 - 1
 MULTIPLIER = 6364136223846793005
 # How many schedules are drawn for each tree, and how many items each has.
 DRAWN, ITEMS = {"worked.tree": 1000, "detector.tree": 200}, 200
+# Trees of which each operator takes a domain. The last has eleven stations and twelve operators.
+TREES = ["worked.tree", "three.tree", "detector.tree", "experiment.tree"]
 # What a drawn order asks, by its number.
 KINDS = ("take", "drop", "do", "do", "include", "exclude", "ask", "watch")
 
@@ -84,3 +87,20 @@ def test_settling(smi, name):
     tree = running.example(name)
     names = names_of(tree)
     assert [seed for seed in range(DRAWN[name]) if not is_settled(smi, tree, names, seed)] == []
+
+
+@pytest.mark.parametrize("name", TREES)
+def test_all_operators(smi, folder, name, subtests):
+    """Each operator takes a domain, and all these takes are lost: each is answered, and no station is started again."""
+    tree = running.example(name)
+    names = names_of(tree)
+    orders = ["%s take %s" % it for it in zip(names["operator"], names["domain"])]
+    schedule = running.write(os.path.join(folder, "schedule"), "".join("order %s\n" % it for it in orders))
+    out, err, status = smi("sim", tree, schedule, "--settle")
+    lines = out.decode().splitlines()
+    with subtests.test("it comes to rest"):
+        assert (err, status) == (b"", 0) and re.fullmatch(r"settled after \d+ items", lines[-1])
+    with subtests.test("each is answered"):
+        assert sorted(it for it in lines if it.startswith("told ")) == sorted("told %s 0" % it for it in orders)
+    with subtests.test("each station has begun once"):
+        assert [it for it in lines if it.startswith("booted ")] == ["booted %s 1" % it for it in names["station"]]

@@ -1,5 +1,5 @@
 """What the page says before an order: who is silent, what waits already, and what can be answered; and what it says of
-modes, and of orders that are withdrawn.
+modes, of orders that are withdrawn, and of who gave them.
 
 The page runs in headless Chromium over made-up answers (tests/page_server.py). The sentences that are expected follow
 from docs/HANDBOOK.md, "Orders from the screen".
@@ -389,3 +389,53 @@ def test_operators(played, subtests):
         assert is_so(lambda: played.browser.run(offered) == own, 10)
     with subtests.test("the one who was chosen stays"):
         assert played.browser.run("document.getElementById('operator').value") == LEADER
+
+
+# What is typed as a name, and what is sent of it, if anything.
+TYPED = [("MARIA", "MARIA"), ("  Maria  Rossi ", "Maria  Rossi"), ("M#A\"R\\\\I\u00c4A\ufe0f", "MARIA"),
+         ("x" * 40, "x" * 32), ("y" * 31 + " z", "y" * 31), ("~ !", "~ !"), ("  # ", None), ("", None)]
+FIELD = "document.getElementById('my-name')"
+
+
+def types_name(played, name):
+    """Has a name in the place of another, and leaves the field."""
+    # By a script: keys come to a page while the test goes on, and after what it asks next.
+    played.browser.run("{ const e = %s; e.value = %s; e.dispatchEvent(new Event('input'));"
+                       " e.dispatchEvent(new Event('blur')); }" % (FIELD, json.dumps(name)))
+
+
+@pytest.mark.parametrize("typed, name", TYPED)
+def test_name(played, typed, name):
+    """Each order goes with the name of who is at the page, and the list of orders tells it."""
+    types_name(played, typed)
+    assert played.browser.run(FIELD + ".value") == (name or "")
+    number, line = len(played.screen.orders) + 1, "order %s do %s STOP" % (LEADER, TOP)
+    played.asks(TOP, "STOP")
+    played.hand.answer(0)
+    assert is_so(lambda: [(it["line"], it["by"]) for it in played.screen.orders[number - 1:]] == [(line, name)], 10)
+    played.screen.end_order(number, 0)
+    listed = line[len("order "):] + (" by " + name if name else "") + "0: done"
+    assert at_last(lambda: played.fates()[-1:], [listed]) == [listed]
+
+
+def test_names_of_several(played, subtests):
+    """Orders of others are told with their names, a line that withdraws one has the name too, and the page keeps it."""
+    types_name(played, "MARIA")
+    order = LEADER + " do %s STOP" % TOP
+    number = played.gives(order + " # PAUL")
+    button = BUTTON % (order + " by PAUL")
+    with subtests.test("another's name is told"):
+        assert played.browser.waits_for("!!" + button, 10) is not None
+    played.browser.run(button + ".click()")
+    with subtests.test("who withdraws it is not who gave it"):
+        wanted = [(order, "PAUL"), ("withdraw %d" % number, "MARIA")]
+        assert is_so(lambda: [(it["line"].replace("order ", ""), it["by"])
+                              for it in played.screen.orders[number - 1:]] == wanted, 5)
+    for place in (number, number + 1):
+        played.screen.answer_line(place, "withdrawn" if place == number else "withdrawn %d" % number)
+    played.browser.open(played.server.url)
+    with subtests.test("it is kept when the page is loaded again"):
+        assert played.browser.waits_for("domains.size && !!picture") is not None
+        assert played.browser.run(FIELD + ".value") == "MARIA"
+    types_name(played, "")
+    played.hand.choose(LEADER)
