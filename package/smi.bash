@@ -39,8 +39,8 @@ _smi()
         sim) options='--seed --settle --steps' ;;
         audit) options='--trace' ;;
         check) options='--lint' ;;
-        node) options='--accept-older --console --endless --journal --journal-sync --open --sources --turns' ;;
-        screen) options='--accept-older --endless --history --history-days --host --http --open --orders --origin --sources --style --token --turns' ;;
+        node) options='--accept-older --console --endless --journal --journal-sync --open --service --sources --turns' ;;
+        screen) options='--accept-older --endless --history --history-days --host --http --open --orders --origin --service --sources --style --token --turns' ;;
     esac
     if [[ $word == -* ]]; then
         mapfile -t COMPREPLY < <(compgen -W "$options" -- "$word")

@@ -24,9 +24,11 @@ import lunskaf
 ALARM = "ERROR|FAULT|ALARM|TRIP"
 TIME = "%Y-%m-%dT%H:%M:%S.%fZ"
 LINE = re.compile(r"(\d{4}-\d\d-\d\dT\d\d:\d\d:\d\d\.\d{3}Z) (\S+) (\d+) (.+)")
-# A line that was typed: maybe after a tag, an order of an operator, or a remark that says who types.
-ORDER = re.compile(r"(?:@\S+ )?order +(\S+) +(.+)")
+# A line that was typed: maybe after a tag, an order of an operator, or a remark that says who types; and a remark that
+# says who has given the order of a tag.
+ORDER = re.compile(r"(?:(@\S+) )?order +(\S+) +(.+)")
 NAME = re.compile(r"(?:@\S+ )?# *name +(.+)")
+GIVER = re.compile(r"# *(@\S+) +name +(.+)")
 
 # A line of a journal: when and at which station it was written, in which boot, and its words.
 Line = collections.namedtuple("Line", "time station boot words")
@@ -70,9 +72,9 @@ class History:
         self.alarm, self.tells_states, self.events = re.compile(alarm), tells_states, []
         # domain: (since when, the grant's epoch, its holder); (domain, epoch, number): (when, command, who)
         self.held, self.running = {}, {}
-        # (station, session): the name that it gave; (operator, order): the time and the place of its typing,
-        # oldest first
-        self.names, self.typed = {}, collections.defaultdict(collections.deque)
+        # (station, boot, session): the name that it gave; the same and a tag: who gives the next order with that tag;
+        # (station, operator, order): when, in which session and by whom it was typed, the oldest first
+        self.names, self.givers, self.typed = {}, {}, collections.defaultdict(collections.deque)
 
     def tell(self, line, kind, about, who, text):
         self.events.append(Event(line.time, line.station, kind, about, who, text))
@@ -135,13 +137,15 @@ class History:
             self.tell(line, "state", what, "", "%s is %s" % (what, state))
 
     def line_typed(self, line, session, *_):
-        said = " ".join(line.words[2:])
-        name, order = NAME.fullmatch(said), ORDER.fullmatch(said)
+        said, where = " ".join(line.words[2:]), (line.station, line.boot, session)
+        name, giver, order = NAME.fullmatch(said), GIVER.fullmatch(said), ORDER.fullmatch(said)
         if name:
-            self.names[line.station, session] = name[1]
+            self.names[where] = name[1]
+        elif giver:
+            self.givers[(*where, giver[1])] = giver[2]
         elif order:
-            of = self.typed[line.station, order[1], " ".join(order[2].split())]
-            of.append((line.time, session))
+            by = self.givers.pop((*where, order[1]), self.names.get(where, ""))
+            self.typed[line.station, order[2], order[3]].append((line.time, session, by))
 
     def line_told(self, line, operator, *words):
         if words[0] == "ask":
@@ -150,8 +154,7 @@ class History:
             order, how = " ".join(words[:-1]), ending(words[-1])
         where, waiting = "", self.typed[line.station, operator, order]
         if waiting:
-            time, session = waiting.popleft()
-            name = self.names.get((line.station, session), "")
+            time, session, name = waiting.popleft()
             where = ", typed at %s%s %s before" % (
                 "the standard input" if session == "0" else "connection " + session, name and " by " + name,
                 length(seconds_between(time, line.time)))
