@@ -11,6 +11,7 @@ handed_more : (out : Out) (n : Noting) (before : List Noting) → IsOf out n
     → handed_in (n ∷ before) ≡ handed_in before ++ out ∷ []
 handed_more out (noting.Begins opening) before is = absurd is
 handed_more out (noting.Writes typed prefix handed) before is = ap (λ (x : Out). handed_in before ++ x ∷ []) is
+handed_more out (noting.Keeps typed prefix handed) before is = ap (λ (x : Out). handed_in before ++ x ∷ []) is
 handed_more out (noting.Skips handed) before is = ap (λ (x : Out). handed_in before ++ x ∷ []) is
 handed_more out (noting.Loses handed) before is = ap (λ (x : Out). handed_in before ++ x ∷ []) is
 
@@ -19,6 +20,7 @@ handed_same : (text : List ℕ) (n : Noting) (before : List Noting) → IsBeginn
     → handed_in (n ∷ before) ≡ handed_in before
 handed_same text (noting.Begins opening) before is = refl
 handed_same text (noting.Writes typed prefix handed) before is = absurd is
+handed_same text (noting.Keeps typed prefix handed) before is = absurd is
 handed_same text (noting.Skips handed) before is = absurd is
 handed_same text (noting.Loses handed) before is = absurd is
 

@@ -1,4 +1,5 @@
 pub mod Blocks
 pub mod Noted
 pub mod Text
+pub mod Waiting
 pub mod Words

@@ -1,9 +1,11 @@
 //! The journal of a station: files of a folder, one after the other.
 //!
-//! Nothing but a clock says when a file is begun, so that it is begun when it has to be is tested alone.
+//! Nothing but a clock says when a file is begun, so that it is begun when it has to be is tested alone. No clause says
+//! that a file begins with this tree, setup and state, nor which lines were typed: that is tested alone too.
 
-ghost use Rattle.std.specs.Prelude.{◌≡◌};
-ghost use Rattle.smi_journal.specs.Noted.{MayBegin, NotesOne, NotesStep};
+ghost use Rattle.std.specs.Prelude.{◌≡◌, true};
+ghost use Rattle.smi_journal.specs.Noted.{MayBegin, NotesOne, NotesStep, entries_of_file_wait};
+ghost use Rattle.smi_journal.specs.Waiting.{may_wait};
 
 use crate::block::StationState;
 use crate::opening::{FileStart, Room, spell_name, spell_opening};
@@ -61,7 +63,7 @@ pub enum Noted {
 /// The journal of a station that is served.
 ///
 /// Contracts see all that it did, the newest first, and that its file has just the entries of each step since it was
-/// begun.
+/// begun, but for those of the last ones that may wait.
 #[derive(Drop)]
 pub struct Journal<H: Files + Drop> {
     alloc: Global,
@@ -74,7 +76,8 @@ pub struct Journal<H: Files + Drop> {
     room: Room,
     /// What was typed since the last step that was written.
     typed: Vec<TypedLine>,
-    /// How many steps are written nowhere since the last fault.
+    /// How many steps wait, and how many are written nowhere since the last fault.
+    waiting: u64,
     unwritten: u64,
     /// When a new file may be begun, in milliseconds since 1970.
     next_try: u64,
@@ -155,6 +158,7 @@ impl<H: Files + Clock + Drop> Journal<H> {
             begun: None,
             room: Room::new(alloc),
             typed: Vec::new(alloc),
+            waiting: 0,
             unwritten: 0,
             next_try: 0,
         };
@@ -198,12 +202,14 @@ impl<H: Files + Clock + Drop> Journal<H> {
         self.begun.take()
     }
 
-    /// Counts a step that is written nowhere, and says when a file may be begun again.
+    /// Counts a step that is written nowhere, and those that waited for it, and says when a file may be begun again.
     fn count_lost(&mut self, now: u64)
         ensures { self.new ≡ self.old }
     {
         self.typed.clear();
-        self.unwritten = self.unwritten.saturating_add(1);
+        let lost = self.waiting.saturating_add(1);
+        self.waiting = 0;
+        self.unwritten = self.unwritten.saturating_add(lost);
         self.next_try = now.saturating_add(PATIENCE);
     }
 
@@ -263,7 +269,10 @@ impl<H: Files + Clock + Drop> Journal<H> {
         ensures { NotesOne out.now self.old.notings self.new.notings }
     {
         match self.write(now, boot, out) {
-            Ok(()) => self.sync(out).is_ok(),
+            Ok(()) => {
+                self.waiting = 0;
+                self.sync(out).is_ok()
+            }
             Err(_) => false,
         }
     }
@@ -304,12 +313,12 @@ impl<H: Files + Clock + Drop> Journal<H> {
         }
     }
 
-    /// Begins the next file, if this one is full or of another day. Returns true if that fails: it ends the file then,
-    /// and the steps that follow are written nowhere.
+    /// Begins the next file, if this one is full or of another day and no lines wait for it. Returns true if that
+    /// fails: it ends the file then, and the steps that follow are written nowhere.
     fn follow_file<T: StationState>(&mut self, now: u64, state: &T) -> bool
         ensures { MayBegin self.old.notings self.new.notings }
     {
-        if !self.steps.is_full(MOST_BYTES, now / DAY) {
+        if self.steps.is_waiting() || !self.steps.is_full(MOST_BYTES, now / DAY) {
             return false;
         }
         if self.begin_file(now, state, FileStart::Continues).is_ok() {
@@ -321,14 +330,44 @@ impl<H: Files + Clock + Drop> Journal<H> {
         true
     }
 
+    /// Keeps a step as [`Self::write`] writes it, until the next one is written. Returns whether that went well.
+    fn keep(&mut self, now: u64, boot: u32, out: &Out) -> bool
+        requires { may_wait self.now.station (entries_of_file_wait self.now) out.now ≡ true }
+        ensures { NotesOne out.now self.old.notings self.new.notings }
+    {
+        if self.prepare(now, boot).is_err() {
+            self.steps.lose(out);
+            return false;
+        }
+        if self.steps.keep(&mut self.room, out).is_err() {
+            return false;
+        }
+        self.waiting = self.waiting.saturating_add(1);
+        true
+    }
+
+    /// Keeps or writes a step, and syncs the file if it is to be. Returns whether all went well.
+    fn keep_or_write(&mut self, now: u64, boot: u32, is_new: bool, out: &Out) -> bool
+        ensures { NotesOne out.now self.old.notings self.new.notings }
+    {
+        if is_new && !self.setup.is_synced && self.steps.may_wait(out) {
+            self.keep(now, boot, out)
+        } else {
+            self.write_and_sync(now, boot, out)
+        }
+    }
+
     /// Notes a step: writes what was typed before it, and a line for each entry that it has handed out, all at once.
     ///
-    /// The state is that of the station after the step. A fault ends the file and never the node: the steps that follow
-    /// are counted, and after a minute a new file is begun, with what stands by then.
+    /// The lines of a step that stays in its station may wait for those of the next one, because nothing outside rests
+    /// on them. A tick is a step too, so they wait for some milliseconds. The state is that of the station after the
+    /// step. A fault ends the file and never the node: the steps that follow are counted, and after a minute a new file
+    /// is begun, with what holds by then.
     pub fn note<T: StationState>(&mut self, state: &T, out: &Out) -> Noted
         ensures { NotesStep out.now self.old.notings self.new.notings }
     {
-        if is_silent(out) && self.typed.is_empty() {
+        let is_new = !is_silent(out) || !self.typed.is_empty();
+        if !is_new && !self.steps.is_waiting() {
             self.steps.skip(out);
             return Noted::Written;
         }
@@ -336,7 +375,7 @@ impl<H: Files + Clock + Drop> Journal<H> {
         if self.steps.file().is_none() {
             return self.resume(now, state, out);
         }
-        if !self.write_and_sync(now, state.boot(), out) {
+        if !self.keep_or_write(now, state.boot(), is_new, out) {
             self.count_lost(now);
             return Noted::Failed;
         }

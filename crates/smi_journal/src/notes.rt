@@ -17,6 +17,12 @@ pub enum Noting {
         prefix: Snapshot<Vec<u8>>,
         handed: Snapshot<Out>,
     },
+    /// It was told a step, and keeps the same until it writes the next one.
+    Keeps {
+        typed: Snapshot<Vec<u8>>,
+        prefix: Snapshot<Vec<u8>>,
+        handed: Snapshot<Out>,
+    },
     /// It was told a step that has left nothing to write.
     Skips {
         handed: Snapshot<Out>,

@@ -11,6 +11,13 @@ returns-in_default-clause-notes g c =
     (ap (λ z. unwrap_or (option_map (λ last. last.value) z) []) c.take-in_default.ensures.value
     ∙ ap (λ z. z.notings) c.self.view_is)
 
+pub returns-then-is_err-clause-notes : goal.returns-then-is_err-clause-notes
+returns-then-is_err-clause-notes g c =
+    noted_one c.args.out.now (noting.Loses c.of-handed.result) _ _
+    c.args.self.now.notings c.of-handed.ensures c.then-then-is_err.ensures
+    (ap (λ z. unwrap_or (option_map (λ last. last.value) z) []) c.take-then-is_err.ensures.value
+    ∙ ap (λ z. z.notings) c.self.view_is)
+
 pub returns-in-Err-clause-notes : goal.returns-in-Err-clause-notes
 returns-in-Err-clause-notes g c =
     noted_one c.args.out.now (noting.Loses c.of-handed.result) _ _
