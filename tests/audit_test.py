@@ -94,11 +94,18 @@ def lose_last(entries):
     return 1 if entries and entries[-1].split(" ")[0] in journals.SAVED else 0
 
 
+def lose_two(entries):
+    """Returns how many of the last entries before a start its block may tell: the last one, and one that waited."""
+    kinds = [words.split(" ")[0] for words in entries[-2:]]
+    return lose_last(entries) and 1 + (len(kinds) == 2 and kinds[0] in journals.WAITING)
+
+
+@pytest.mark.parametrize("lose", [lose_last, lose_two])
 @pytest.mark.parametrize("seed", SEEDS)
 @pytest.mark.parametrize("name", TREES)
-def test_a_start_tells_what_was_lost(night, audit, name, seed):
+def test_a_start_tells_what_was_lost(night, audit, name, seed, lose):
     tree, trace = night(name, seed)
-    written = journals.journals_of(tree, trace, lose_last)
+    written = journals.journals_of(tree, trace, lose)
     whole = journals.journals_of(tree, trace)
     lost = sum(map(len, whole.values())) - sum(map(len, written.values()))
     out, err, status = audit(tree, files_of(tree, written, tree.stations))

@@ -14,8 +14,9 @@ ANY = "?"
 MODES = ("included", "manual", "ignored")
 # The first words of the lines of a block.
 BLOCK = ("stands", "link", "pending", "state", "seen")
-# Kinds of entries that a save leaves.
+# Kinds of entries that a save leaves, and those of which one may wait until the next step is written.
 SAVED = ("granted", "freed", "ordered", "ran", "learned", "letgo", "mode", "settled")
+WAITING = ("granted", "ordered", "letgo")
 BEGIN = datetime.datetime(2026, 11, 28, 17, 45)
 
 
@@ -254,53 +255,86 @@ class Loaded:
         return dict(self.account.pending[holder, domain]).get(number, ANY)
 
 
+class Lost:
+    """The entries that a journal lacks by a block, by the row that tells them: a domain's, or an operator's."""
+
+    # In which order steps leave them.
+    ORDER = ("granted", "ordered", "ran", "learned", "letgo", "mode", "settled", "freed")
+
+    def __init__(self):
+        self.rows, self.is_known = collections.defaultdict(list), True
+
+    def add(self, row, *entries):
+        self.rows[row] += entries
+
+    def unless(self, is_strange):
+        """No step makes this of that row."""
+        self.is_known = self.is_known and not is_strange
+
+    def entries(self):
+        # (what is let go and what is learned keep the order in which they were found)
+        rank = lambda entry: self.ORDER.index("learned" if entry[0] == "letgo" else entry[0])
+        return sorted((it for row in self.rows.values() for it in row), key=rank)
+
+    def is_lawful(self):
+        """Returns whether they may be of one step, and of one before it that waited."""
+        waited = [row for row, of in self.rows.items() if len(of) == 1 and of[0][0] in WAITING]
+        return self.is_known and len(self.rows) <= (2 if waited else 1)
+
+
+def lose_of_domain(lost, domain, before, after, command):
+    """Adds what a domain's record tells that differs."""
+    epoch, holder, last, is_busy, outcome = after
+    settled = ("settled", domain, epoch, last, outcome)
+    lost.add(domain)
+    if epoch == before[0] + 1 and last == 0 and not before[3]:
+        lost.add(domain, ("granted", domain, epoch, holder) if holder else ("freed", domain, epoch))
+    elif after[:2] == before[:2] and last == before[2] + 1 and not before[3]:
+        lost.add(domain, ("ran", domain, epoch, last, command), *([] if is_busy else [settled]))
+    elif after[:3] == before[:3] and before[3] and not is_busy:
+        lost.add(domain, settled)
+    else:
+        lost.unless(True)
+
+
+def lose_of_orders(lost, ends, epoch, before, after, pending):
+    """Adds the orders under a grant that are missing: of the step that waited, and of the one after it."""
+    lost.add(ends[0])
+    lost.unless(not 0 < after - before <= 2)
+    for number in range(before + 1, min(before + 2, after) + 1):
+        lost.unless(number not in pending)
+        lost.add(ends[0], ("ordered", *ends, epoch, number, pending.get(number)))
+
+
 def lost_of(tree, was, lines, is_torn):
-    """Returns the entries that a journal lacks by a block, in the order of a step, and whether they are of one step.
+    """Returns the entries that a journal lacks by a block, in an order in which steps leave them, and whether they are
+    lawful.
 
     Of a torn block the lines that are there are looked at, and no others.
     """
-    loaded = Loaded(lines)
+    loaded, lost = Loaded(lines), Lost()
     now = loaded.account
-    lost, rows, is_one = collections.defaultdict(list), set(), True
     for domain in tree.parent:
         before, after = was.record(domain), now.record(domain)
-        if before == after or (is_torn and domain not in now.records):
-            continue
-        rows.add(domain)
-        epoch, holder, last, is_busy, outcome = after
-        if epoch == before[0] + 1 and last == 0 and not before[3]:
-            lost[0].append(("granted", domain, epoch, holder) if holder else ("freed", domain, epoch))
-        elif after[:2] == before[:2] and last == before[2] + 1 and not before[3]:
-            lost[2].append(("ran", domain, epoch, last, loaded.command(tree, domain, last)))
-            lost[5] += [] if is_busy else [("settled", domain, epoch, last, outcome)]
-        elif after[:3] == before[:3] and before[3] and not is_busy:
-            lost[5].append(("settled", domain, epoch, last, outcome))
-        else:
-            is_one = False
-    for holder, domain in {**({} if is_torn else was.links), **now.links}:
+        if before != after and not (is_torn and domain not in now.records):
+            lose_of_domain(lost, domain, before, after, loaded.command(tree, domain, after[2]))
+    for holder, domain in {**now.links, **({} if is_torn else was.links)}:
         before, after = was.link(holder, domain), now.link(holder, domain)
         if before[1] and not after[1]:
-            rows.add(holder)
-            lost[3].append(("letgo", holder, domain, before[0]))
+            lost.add(holder, ("letgo", holder, domain, before[0]))
         elif after[1]:
             is_new = before[0] < after[0]
             if is_new:
-                rows.add(holder)
-                lost[3].append(("learned", holder, domain, after[0]))
-                is_one = is_one and not before[1] and after[2] == 0
-            elif after[0] < before[0] or not before[1]:
-                is_one = False
-            if holder in tree.operators and after[2] != (0 if is_new else before[2]):
-                rows.add(holder)
-                number = after[2]
-                command = dict(now.pending[holder, domain]).get(number)
-                is_one = is_one and command is not None and number == (0 if is_new else before[2]) + 1
-                lost[1].append(("ordered", holder, domain, after[0], number, command))
+                lost.add(holder, ("learned", holder, domain, after[0]))
+                lost.unless(before[1] or after[2] != 0)
+            lost.unless(not is_new and (after[0] < before[0] or not before[1]))
+            number = 0 if is_new else before[2]
+            if holder in tree.operators and after[2] != number:
+                lose_of_orders(lost, (holder, domain), after[0], number, after[2], dict(now.pending[holder, domain]))
             mode = now.modes.get((holder, domain))
             if holder in tree.parent and mode != ("included" if is_new else was.modes.get(domain, "included")):
-                rows.add(holder)
-                lost[4].append(("mode", domain, mode))
-    return [entry for rank in range(6) for entry in lost[rank]], is_one and len(rows) <= 1
+                lost.add(holder, ("mode", domain, mode))
+    return lost.entries(), lost.is_lawful()
 
 
 def replayed(tree, lines, has_end):

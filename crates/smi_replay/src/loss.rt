@@ -1,4 +1,5 @@
-//! What a journal lacks by what its station loaded at a start: the entries of a step that was saved and not written.
+//! What a journal lacks by what its station loaded at a start: the entries of the step that was saved last and not
+//! written, and of one before it that was kept until that would be written.
 
 use crate::account::{Account, DomainState, LinkState};
 use smi_grant::{Command, Holder};
@@ -27,25 +28,55 @@ enum Rank {
     Link,
     Mode,
     End,
+    Freed,
 }
 
-const RANKS: [Rank; 6] = [
+const RANKS: [Rank; 7] = [
     Rank::Grant,
     Rank::Order,
     Rank::Run,
     Rank::Link,
     Rank::Mode,
     Rank::End,
+    Rank::Freed,
 ];
+
+/// How many orders of one link may be missing: of the step that was kept, and of the last one.
+const MOST_ORDERS: u32 = 2;
+
+/// A row that differs.
+#[derive(Clone, Copy)]
+struct RowLoss {
+    /// Whose row it is: a domain's, or an operator's.
+    row: Holder,
+    /// How many entries are missing by it.
+    count: u32,
+    /// Whether the last of them is one that a journal keeps until the next step is written.
+    may_wait: bool,
+}
 
 /// What was found to be missing.
 #[derive(Drop)]
 struct Found {
     entries: Vec<(Rank, Lost)>,
-    /// The holder of the row that differs: a domain, or an operator.
-    row: Option<Holder>,
-    /// Whether it may all be of one step, which saves one row.
+    /// The rows that differ, and the place of the one that was touched last.
+    rows: Vec<RowLoss>,
+    touched: usize,
+    /// Whether each row differs as by one step.
     is_one_step: bool,
+}
+
+/// Returns true if a journal may keep an entry until the next step is written.
+fn may_wait(entry: &Entry) -> bool {
+    matches!(
+        entry,
+        Entry::Granted { .. } | Entry::Ordered { .. } | Entry::LetGo { .. }
+    )
+}
+
+/// Returns true if what is missing by a row may be of a step that was kept.
+fn is_kept(loss: &RowLoss) -> bool {
+    loss.count == 1 && loss.may_wait
 }
 
 impl Found {
@@ -53,12 +84,17 @@ impl Found {
         self.add_lost(rank, entry, true)
     }
 
+    /// Adds an entry that is missing by the row that was touched last.
     fn add_lost(
         &mut self,
         rank: Rank,
         entry: &Entry,
         is_command_known: bool,
     ) -> Result<(), AllocError> {
+        if let Some(loss) = self.rows.get_mut(self.touched) {
+            loss.count = loss.count.saturating_add(1);
+            loss.may_wait = may_wait(entry);
+        }
         self.entries.push((
             rank,
             Lost {
@@ -69,12 +105,29 @@ impl Found {
         Ok(())
     }
 
-    /// Notes that a row differs.
-    fn touch(&mut self, row: Holder) {
-        if self.row.is_some() && self.row != Some(row) {
-            self.is_one_step = false;
+    /// Notes that a row differs. What is added then is missing by it.
+    fn touch(&mut self, row: Holder) -> Result<(), AllocError> {
+        if let Some(place) = self.rows.iter().position(|loss| loss.row == row) {
+            self.touched = place;
+            return Ok(());
         }
-        self.row = Some(row);
+        self.touched = self.rows.len();
+        self.rows.push(RowLoss {
+            row,
+            count: 0,
+            may_wait: false,
+        })?;
+        Ok(())
+    }
+
+    /// Returns true if it may all be of one step, which saves one row, or of two of which the first was kept.
+    fn is_lawful(&self) -> bool {
+        let is_few = match self.rows.as_slice() {
+            [] | [_] => true,
+            [one, other] => is_kept(one) || is_kept(other),
+            _ => false,
+        };
+        self.is_one_step && is_few
     }
 
     fn add_settled(&mut self, domain: u16, now: &DomainState) -> Result<(), AllocError> {
@@ -91,16 +144,15 @@ impl Found {
 
     fn add_grant(&mut self, domain: u16, now: &DomainState) -> Result<(), AllocError> {
         let (epoch, holder) = (now.epoch, now.holder);
-        let entry = if holder == Holder::Free {
-            Entry::Freed { domain, epoch }
-        } else {
-            Entry::Granted {
-                domain,
-                epoch,
-                holder,
-            }
+        if holder == Holder::Free {
+            return self.add(Rank::Freed, &Entry::Freed { domain, epoch });
+        }
+        let granted = Entry::Granted {
+            domain,
+            epoch,
+            holder,
         };
-        self.add(Rank::Grant, &entry)
+        self.add(Rank::Grant, &granted)
     }
 
     fn add_run(
@@ -129,7 +181,7 @@ impl Found {
         if *was == *now {
             return Ok(());
         }
-        self.touch(Holder::Domain(domain));
+        self.touch(Holder::Domain(domain))?;
         let is_same_grant = now.epoch == was.epoch && now.holder == was.holder;
         let is_next_grant = now.epoch == was.epoch.saturating_add(1) && now.last == 0;
         let is_next_run = is_same_grant && now.last == was.last.saturating_add(1);
@@ -156,14 +208,32 @@ impl Found {
         operator: u16,
         was: &LinkState,
         now: &LinkState,
-        command: Option<Command>,
+        loaded: &Account,
     ) -> Result<(), AllocError> {
         let before = if was.epoch < now.epoch { 0 } else { was.number };
         if now.number == before {
             return Ok(());
         }
-        self.touch(now.holder);
-        let (Some(command), true) = (command, now.number == before.saturating_add(1)) else {
+        self.touch(now.holder)?;
+        if now.number < before || now.number - before > MOST_ORDERS {
+            self.is_one_step = false;
+            return Ok(());
+        }
+        for number in before..now.number {
+            self.add_order(operator, now, number + 1, loaded)?;
+        }
+        Ok(())
+    }
+
+    /// Adds the order of an operator that has a number, if its command is pending.
+    fn add_order(
+        &mut self,
+        operator: u16,
+        now: &LinkState,
+        number: u32,
+        loaded: &Account,
+    ) -> Result<(), AllocError> {
+        let Some(command) = loaded.pending(now.holder, now.domain, number) else {
             self.is_one_step = false;
             return Ok(());
         };
@@ -173,7 +243,7 @@ impl Found {
                 operator,
                 domain: now.domain,
                 epoch: now.epoch,
-                number: now.number,
+                number,
                 command,
             },
         )
@@ -189,7 +259,7 @@ impl Found {
         if now.mode == before {
             return Ok(());
         }
-        self.touch(now.holder);
+        self.touch(now.holder)?;
         self.add(
             Rank::Mode,
             &Entry::InMode {
@@ -204,11 +274,11 @@ impl Found {
         &mut self,
         was: &LinkState,
         now: &LinkState,
-        command: Option<Command>,
+        loaded: &Account,
     ) -> Result<(), AllocError> {
         let (holder, domain) = (now.holder, now.domain);
         if was.is_held && !now.is_held {
-            self.touch(holder);
+            self.touch(holder)?;
             let epoch = was.epoch;
             return self.add(
                 Rank::Link,
@@ -223,7 +293,7 @@ impl Found {
             return Ok(());
         }
         if was.epoch < now.epoch {
-            self.touch(holder);
+            self.touch(holder)?;
             self.is_one_step = self.is_one_step && !was.is_held && now.number == 0;
             let epoch = now.epoch;
             self.add(
@@ -238,7 +308,7 @@ impl Found {
             self.is_one_step = false;
         }
         match holder {
-            Holder::Operator(operator) => self.compare_orders(operator, was, now, command),
+            Holder::Operator(operator) => self.compare_orders(operator, was, now, loaded),
             Holder::Domain(_) => self.compare_mode(was, now),
             Holder::Free => Ok(()),
         }
@@ -259,8 +329,7 @@ impl Found {
             }
         }
         for link in now.links() {
-            let command = now.pending(link.holder, link.domain, link.number);
-            self.compare_link(&was.link(link.holder, link.domain), link, command)?;
+            self.compare_link(&was.link(link.holder, link.domain), link, now)?;
         }
         Ok(())
     }
@@ -279,9 +348,9 @@ impl Found {
             }
         }
         for link in was.links() {
-            let now = now.link(link.holder, link.domain);
-            if now.epoch == 0 && link.is_held {
-                self.compare_link(link, &now, None)?;
+            let is = now.link(link.holder, link.domain);
+            if is.epoch == 0 && link.is_held {
+                self.compare_link(link, &is, now)?;
             }
         }
         Ok(())
@@ -297,9 +366,10 @@ pub(crate) enum BlockEnd {
     Torn,
 }
 
-/// Puts the entries that an account lacks against what was loaded at the end of `lost`, in the order of a step.
+/// Puts the entries that an account lacks against what was loaded at the end of `lost`, in an order in which steps
+/// leave them.
 ///
-/// Returns false if they can't be those of one step, because more than one row differs: then lines are missing.
+/// Returns false if they can't be those of one step, and of one before it that was kept: then lines are missing.
 pub(crate) fn find_lost(
     tree: &Tree,
     was: &Account,
@@ -309,7 +379,8 @@ pub(crate) fn find_lost(
 ) -> Result<bool, AllocError> {
     let mut found = Found {
         entries: Vec::new(*lost.allocator()),
-        row: None,
+        rows: Vec::new(*lost.allocator()),
+        touched: 0,
         is_one_step: true,
     };
     found.compare_named(tree, was, now)?;
@@ -323,5 +394,5 @@ pub(crate) fn find_lost(
             }
         }
     }
-    Ok(found.is_one_step)
+    Ok(found.is_lawful())
 }
