@@ -37,8 +37,9 @@ FRAME = 4096 + 24
 ASKS = 3000
 # How often a thread is woken.
 WAKINGS = 20_000
-# How many nodes make takes and drops with a journal, and as many without one.
-JOURNALED = 15
+# How many nodes make takes and drops with a journal, and as many without one; and how many each. Of fewer the times of
+# two nodes of one kind differ by more than a journal costs.
+JOURNALED, JOURNALED_PAIRS = 25, 1500
 ORDERS = 300
 
 
@@ -162,18 +163,22 @@ def wakings(waking):
 
 
 def journals(program):
-    """Takes with their drops a second over a store in memory, with a journal beside it and without one, in turn."""
+    """Takes with their drops a second over a store in memory, with a journal beside it and without one, in turn.
+
+    Now the one begins a round and now the other. The ratio is the middle of the rounds' ratios.
+    """
     counts = {"with": [], "without": []}
     with tempfile.TemporaryDirectory(dir="/dev/shm") as folder:
         tree = nodes.write_tree(folder, nodes.free_ports(2))
-        lines = ["order ANN ask DCS"] + ["order ANN take DCS", "order ANN drop DCS"] * PAIRS
+        lines = ["order ANN ask DCS"] + ["order ANN take DCS", "order ANN drop DCS"] * JOURNALED_PAIRS
+        ways = [("with", ["--journal", os.path.join(folder, "night")]), ("without", [])]
         for place in range(JOURNALED):
-            for how, more in (("with", ["--journal", os.path.join(folder, "night")]), ("without", [])):
+            for how, more in ways[::-1] if place % 2 else ways:
                 words = [tree, "A", os.path.join(folder, "%s%d" % (how, place)), *more]
-                counts[how].append(PAIRS / lines_in(program, words, lines))
-    middles = {how: statistics.median(of) for how, of in counts.items()}
+                counts[how].append(JOURNALED_PAIRS / lines_in(program, words, lines))
+    ratio = statistics.median(a / b for a, b in zip(counts["with"], counts["without"]))
     print("node: %.0f takes with their drops a second in memory, %.0f with a journal; ratio %.3f"
-          % (middles["without"], middles["with"], middles["with"] / middles["without"]))
+          % (statistics.median(counts["without"]), statistics.median(counts["with"]), ratio))
 
 
 def main():
