@@ -1,12 +1,14 @@
 //! Files by paths that need not be text.
 
+ghost use Rattle.std.specs.Prelude.{◌≡◌, ◌++◌, IfOk};
+
 use std::alloc::{AllocError, Global};
 use std::fs;
 use std::io::{self, ErrorKind, Read};
 use std::rt::Files;
 
-/// A path that is no text is opened by its bytes, and then again by the name that the system has for
-/// what is open.
+/// Opens the file of a path. One that is no text is opened by its bytes, and then again by the name that the system has
+/// for what is open.
 pub fn open<H: Files + AllocGlobal>(host: &H, path: &[u8]) -> io::Result<H::File> {
     if let Ok(text) = str::from_utf8(path) {
         return fs::open(host, text);
@@ -19,7 +21,7 @@ pub fn open<H: Files + AllocGlobal>(host: &H, path: &[u8]) -> io::Result<H::File
     fs::open(host, name.as_str())
 }
 
-/// The bytes of a file, none where there is no file. What is no regular file is not opened.
+/// Returns the bytes of a file, or none if there is no file. What is no regular file is not opened.
 pub fn bytes_of<H: Files + AllocGlobal>(host: &H, path: &[u8]) -> io::Result<Option<Vec<u8>>> {
     if let Ok(text) = str::from_utf8(path) {
         match fs::metadata(host, text) {
@@ -39,7 +41,7 @@ pub fn bytes_of<H: Files + AllocGlobal>(host: &H, path: &[u8]) -> io::Result<Opt
     Ok(Some(bytes))
 }
 
-/// The path with no link in it, where it is text.
+/// Returns the path with no link in it, if it is text.
 pub fn resolved<H: Files + AllocGlobal>(host: &H, path: &[u8]) -> io::Result<Vec<u8>> {
     match str::from_utf8(path) {
         Ok(text) => {
@@ -50,8 +52,10 @@ pub fn resolved<H: Files + AllocGlobal>(host: &H, path: &[u8]) -> io::Result<Vec
     }
 }
 
-/// The path with more after it.
-pub fn beside(alloc: Global, path: &[u8], more: &[u8]) -> Result<Vec<u8>, AllocError> {
+/// Returns the path with more after it.
+pub fn beside(alloc: Global, path: &[u8], more: &[u8]) -> Result<Vec<u8>, AllocError>
+    ensures { IfOk result (λ longer. longer.items ≡ path.now ++ more.now) }
+{
     let mut longer = Vec::from_slice(alloc, path)?;
     longer.extend_from_slice(more)?;
     Ok(longer)

@@ -1,5 +1,9 @@
 //! A listing of a store: of a copy of its files in memory, so that it needs no leave to write, makes and leaves
-//! nothing, and stands in nobody's way: a station may run on the store, and any number of listings beside it.
+//! nothing, and is in nobody's way: a station may run on the store, and any number of listings beside it.
+
+ghost use Rattle.std.specs.Prelude.{◌≡◌, ◌≢◌, ◌↔◌, true, IsTrue, IfOk, slice_index};
+ghost use Rattle.std.specs.IoError.{error_kind};
+ghost use Rattle.smi_disks.specs.Listing as spec;
 
 use crate::file::{beside, bytes_of, resolved};
 use smi_commands::rows::{Listed, rows};
@@ -29,8 +33,18 @@ pub fn list<H: rt::Files + Clock + AllocGlobal, W: Write>(
 ) -> Listed {
     match copied(host, path) {
         Ok(copy) => list_copy(host.alloc(), &copy, writer),
-        Err(e) if e.kind() == ErrorKind::OutOfMemory => Listed::Memory,
-        Err(_) => Listed::StoreFault,
+        Err(e) => listed_unread(&e),
+    }
+}
+
+/// Returns how a listing ends of files that could not be read.
+fn listed_unread(error: &io::Error) -> Listed
+    ensures memory { error_kind error.now ≡ ErrorKind.OutOfMemory → result ≡ Listed.Memory }
+    ensures fault { error_kind error.now ≢ ErrorKind.OutOfMemory → result ≡ Listed.StoreFault }
+{
+    match error.kind() {
+        ErrorKind::OutOfMemory => Listed::Memory,
+        _ => Listed::StoreFault,
     }
 }
 
@@ -42,14 +56,16 @@ struct Copy {
     is_settled: bool,
 }
 
-/// Both files as they were at one moment: read until two readings are the same. Between the first
-/// reading of the one and the second of the other nothing was written then.
-fn copied<H: rt::Files + Clock + AllocGlobal>(host: &H, path: &[u8]) -> io::Result<Copy> {
+/// Reads both files until two readings are the same, and returns them as they were at one moment: nothing was written
+/// between the first reading of the one and the second of the other.
+fn copied<H: rt::Files + Clock + AllocGlobal>(host: &H, path: &[u8]) -> io::Result<Copy>
+    ensures { IfOk result (λ copy. copy.is_settled ≡ true) }
+{
     let path = resolved(host, path)?;
     for _ in 0..MOST_TRIES {
         let first = read(host, path.as_slice())?;
         let second = read(host, path.as_slice())?;
-        if second.is_settled && are_same(&first, &second) {
+        if are_of_one_moment(&first, &second) {
             return Ok(second);
         }
         sleep(host, Duration::from_millis(1));
@@ -57,8 +73,13 @@ fn copied<H: rt::Files + Clock + AllocGlobal>(host: &H, path: &[u8]) -> io::Resu
     Err(io::Error::from(ErrorKind::ResourceBusy))
 }
 
-fn are_same(some: &Copy, other: &Copy) -> bool {
-    some.db.as_slice() == other.db.as_slice() && some.log.as_slice() == other.log.as_slice()
+/// Returns true if two readings, one after the other, tell what the files were at one moment.
+fn are_of_one_moment(first: &Copy, second: &Copy) -> bool
+    ensures { result ≡ spec.are_of_one_moment first.now second.now }
+{
+    second.is_settled
+        && first.db.as_slice() == second.db.as_slice()
+        && first.log.as_slice() == second.log.as_slice()
 }
 
 fn read<H: rt::Files + AllocGlobal>(host: &H, path: &[u8]) -> io::Result<Copy> {
@@ -74,8 +95,10 @@ fn read<H: rt::Files + AllocGlobal>(host: &H, path: &[u8]) -> io::Result<Copy> {
     })
 }
 
-/// Whether a journal has changes of another program that are half done, and that it alone can undo.
-fn is_to_be_played_back(journal: &[u8]) -> bool {
+/// Returns true if a journal has changes of another program that are half done, and that it alone can undo.
+fn is_to_be_played_back(journal: &[u8]) -> bool
+    ensures { IsTrue result ↔ slice_index journal.now 0 ≢ 0 }
+{
     journal.first().is_some_and(|byte| *byte != 0)
 }
 
@@ -97,7 +120,7 @@ fn disks(alloc: Global, copy: &Copy) -> io::Result<Files<Memory>> {
     })
 }
 
-/// A disk that has grown before, so that a refused allocation shows here and as nothing else later.
+/// Returns a disk with these bytes that has grown before, so that a refused allocation shows here and not later.
 fn disk(alloc: Global, bytes: &[u8]) -> io::Result<Memory> {
     let mut disk = Memory::new(alloc);
     disk.set_len(bytes.len().saturating_add(ROOM))?;
@@ -122,13 +145,14 @@ fn list_in<W: Write>(alloc: Global, files: Files<Memory>, writer: &mut W) -> Lis
     }
 }
 
-/// A disk in memory that may not be used any more was refused an allocation: what looks like a faulty store is none
-/// then.
-fn found_out(listed: Listed, may_be_used: bool) -> Listed {
-    if listed == Listed::StoreFault && !may_be_used {
-        Listed::Memory
-    } else {
-        listed
+/// Returns how a listing ended, by how it seems to have ended, and by whether its disk in memory may still be used. One
+/// that may not was refused an allocation: what looks like a faulty store is none then.
+fn found_out(listed: Listed, may_be_used: bool) -> Listed
+    ensures { result ≡ spec.found_out listed may_be_used }
+{
+    match listed {
+        Listed::StoreFault if !may_be_used => Listed::Memory,
+        _ => listed,
     }
 }
 
@@ -143,7 +167,7 @@ impl EndsWell for FileStore<Memory> {
     }
 }
 
-/// The database of a store that is given up.
+/// Returns the database of a store that is given up.
 fn database_of<S: Alter + Drop>(stable: SqliteStable<S>) -> S {
     match stable.release() {
         Ok(connection) => connection.into_store(),
@@ -151,7 +175,7 @@ fn database_of<S: Alter + Drop>(stable: SqliteStable<S>) -> S {
     }
 }
 
-// Over any store, since each function that names the store of SQLite is dear to prove.
+// Over any store, since each function that names the store of SQLite is expensive to prove.
 fn list_over<S: EndsWell, W: Write>(connection: Connection<S>, writer: &mut W) -> Listed {
     match SqliteStable::adopt(connection) {
         Ok(stable) => {

@@ -28,7 +28,7 @@ impl TreeMark {
     ghost use Rattle.std.specs.Prelude.{◌≡◌, ◌≢◌, length, IfSome, None};
     ghost use Rattle.smi_disks.specs.Mark.{mark_bytes};
 
-    /// The bytes of the mark (docs/FORMATS.md, "The label of a store").
+    /// Returns the bytes of the mark (docs/FORMATS.md, "The label of a store").
     pub fn bytes(&self) -> [u8; MARK_BYTES]
         ensures { result ≡ mark_bytes self.now }
     {
@@ -38,7 +38,7 @@ impl TreeMark {
         bytes
     }
 
-    /// The mark of these bytes; none where they are not as many as a mark has.
+    /// Returns the mark of these bytes, or none if a mark has another number of bytes.
     pub fn of(bytes: &[u8]) -> Option<TreeMark>
         ensures found { IfSome result (λ mark. bytes.now ≡ mark_bytes mark) }
         ensures none { result ≡ None → length bytes.now ≢ MARK_BYTES }
@@ -56,7 +56,7 @@ impl TreeMark {
     }
 }
 
-/// How the tree of one mark compares with that of another.
+/// Returns how the tree of one mark compares with that of another.
 pub fn compare(own: &TreeMark, other: &TreeMark) -> Kinship
     ensures { result ≡ kin own.now other.now }
 {

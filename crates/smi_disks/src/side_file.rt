@@ -23,13 +23,17 @@ fn remove_unfinished<H: Files>(host: &H, store: &str, unfinished: &str) -> io::R
 /// The path of a small file beside a store, and the one that it has until it is whole.
 #[derive(Drop)]
 pub(crate) struct SideFile {
-    finished: String,
+    pub(crate) finished: String,
     unfinished: String,
 }
 
 impl SideFile {
+    ghost use Rattle.std.specs.Prelude.{◌≡◌, ◌++◌, IfOk, string_bytes};
+
     /// Returns the paths of the file whose name is that of a store with this ending.
-    pub(crate) fn of(alloc: Global, store: &str, ending: &str) -> Result<SideFile, AllocError> {
+    pub(crate) fn of(alloc: Global, store: &str, ending: &str) -> Result<SideFile, AllocError>
+        ensures { IfOk result (λ file. string_bytes file.finished ≡ store.now ++ ending.now) }
+    {
         Ok(SideFile {
             finished: format!(in alloc; "{}{}", store, ending)?,
             unfinished: format!(in alloc; "{}{}{}", store, ending, UNFINISHED)?,

@@ -9,14 +9,14 @@ use sha2::{Digest, Sha256};
 use smi_tree::{first_line, first_word, is_comment};
 use std::alloc::{AllocError, Global};
 
-/// Whether a line that begins with this word is a station's.
+/// Returns true if a line that begins with this word is a station's.
 fn is_station(word: &[u8]) -> bool
     ensures { result ≡ is_station word.now }
 {
     word == b"station".as_slice()
 }
 
-/// A word and a blank are put at the end of a text.
+/// Puts a word and a blank at the end of a text.
 fn speak_word(text: &mut Vec<u8>, word: &[u8]) -> Result<(), AllocError>
     ensures { OnOk result (text.new.items ≡ text.old.items ++ (word.now ++ 32 ∷ [])) }
 {
@@ -25,7 +25,7 @@ fn speak_word(text: &mut Vec<u8>, word: &[u8]) -> Result<(), AllocError>
     Ok(())
 }
 
-/// The words of a line are put at the end of a text, each with a blank behind it.
+/// Puts the words of a line at the end of a text, each followed by a blank.
 fn speak_words(text: &mut Vec<u8>, line: &[u8]) -> Result<(), AllocError>
     ensures { OnOk result (text.new.items ≡ text.old.items ++ spaced (words line.now)) }
 {
@@ -38,7 +38,7 @@ fn speak_words(text: &mut Vec<u8>, line: &[u8]) -> Result<(), AllocError>
     Ok(())
 }
 
-/// The first word of some words is put at the end of a text, with a blank behind it.
+/// Puts the first word of a line at the end of a text, followed by a blank.
 fn speak_first(text: &mut Vec<u8>, line: &[u8]) -> Result<(), AllocError>
     ensures { OnOk result (text.new.items ≡ text.old.items ++ spaced (take 1 (words line.now))) }
 {
@@ -48,7 +48,7 @@ fn speak_first(text: &mut Vec<u8>, line: &[u8]) -> Result<(), AllocError>
     }
 }
 
-/// What a line says is put at the end of a text.
+/// Puts what a line says at the end of a text.
 fn speak_line(text: &mut Vec<u8>, line: &[u8]) -> Result<(), AllocError>
     ensures { OnOk result (text.new.items ≡ text.old.items ++ line_spoken line.now) }
 {
@@ -68,8 +68,8 @@ fn speak_line(text: &mut Vec<u8>, line: &[u8]) -> Result<(), AllocError>
     Ok(())
 }
 
-/// What a tree file says: the words of its lines, each with a blank behind it and each line with a line feed. Lines
-/// without words and comments say nothing, nor does the address of a station.
+/// Returns what a tree file says: the words of its lines, each followed by a blank, and a line feed after each line.
+/// Lines without words and comments say nothing, nor does the address of a station.
 ///
 /// Its error is that memory was refused.
 pub fn speak(alloc: Global, file: &[u8]) -> Result<Vec<u8>, AllocError>
@@ -85,7 +85,7 @@ pub fn speak(alloc: Global, file: &[u8]) -> Result<Vec<u8>, AllocError>
     Ok(text)
 }
 
-/// The digest of what a tree file says: SHA-256 of FIPS 180-4.
+/// Returns the digest of what a tree file says: SHA-256 of FIPS 180-4.
 ///
 /// Its error is that memory was refused.
 pub fn digest(alloc: Global, file: &[u8]) -> Result<[u8; 32], AllocError>

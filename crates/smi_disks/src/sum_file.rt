@@ -1,5 +1,8 @@
 //! The file that has the sum of a store, and what is seen of the store's files by it.
 
+ghost use Rattle.std.specs.Prelude.{◌≡◌, MatchOption, IfOk, true, false};
+ghost use Rattle.smi_disks.specs.StoreCopy.{copy_bytes, copy_of};
+
 use crate::file::{beside, bytes_of};
 use crate::side_file::SideFile;
 use crate::store_copy::{COPY_BYTES, StoreCopy, StoreHealth, health, spell_copy};
@@ -19,8 +22,12 @@ pub(crate) struct SumFile {
 }
 
 impl SumFile {
+    ghost use Rattle.std.specs.Prelude.{◌≡◌, ◌++◌, IfOk, codes, string_bytes};
+
     /// Returns where the sum of a store is written.
-    pub(crate) fn of(alloc: Global, store: &str) -> Result<SumFile, AllocError> {
+    pub(crate) fn of(alloc: Global, store: &str) -> Result<SumFile, AllocError>
+        ensures { IfOk result (λ sum. string_bytes sum.file.finished ≡ store.now ++ codes "-sum") }
+    {
         Ok(SumFile {
             file: SideFile::of(alloc, store, SUM)?,
         })
@@ -32,13 +39,27 @@ impl SumFile {
             store_bytes(host, store.as_bytes())?,
             log_bytes(host, store.as_bytes())?,
         );
-        let Some(copy) = StoreCopy::of_files(file.as_slice(), log.as_slice()) else {
+        let mut note = Vec::with_capacity(host.alloc(), COPY_BYTES)?;
+        if !spell_note(&mut note, file.as_slice(), log.as_slice())? {
             return Ok(());
-        };
-        let mut bytes = Vec::with_capacity(host.alloc(), COPY_BYTES)?;
-        spell_copy(&mut bytes, &copy)?;
-        self.file.put(host, store, bytes.as_slice())
+        }
+        self.file.put(host, store, note.as_slice())
     }
+}
+
+/// Puts the note of a store with this file and this log into a text, in place of what was there. Returns false if the
+/// log has something that is not copied: then there is nothing to note.
+///
+/// Its error is that memory was refused.
+fn spell_note(text: &mut Vec<u8>, file: &[u8], log: &[u8]) -> Result<bool, AllocError>
+    ensures { IfOk result (λ is_noted. MatchOption (copy_of file.now log.now)
+        (is_noted ≡ false) (λ copy. (is_noted ≡ true) × (text.new.items ≡ copy_bytes copy))) }
+{
+    let Some(copy) = StoreCopy::of_files(file, log) else {
+        return Ok(false);
+    };
+    spell_copy(text, &copy)?;
+    Ok(true)
 }
 
 /// Returns the bytes of a store's file; none if there is no file.
