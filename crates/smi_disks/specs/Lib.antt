@@ -1,4 +1,5 @@
 pub mod Label
+pub mod LabelFound
 pub mod Listing
 pub mod Mark
 pub mod Spoken

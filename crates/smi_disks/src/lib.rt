@@ -20,6 +20,7 @@
 mod file;
 mod label;
 mod label_file;
+mod label_found;
 mod listing;
 mod log_check;
 mod mark;
@@ -32,7 +33,7 @@ mod watched;
 
 pub use file::{beside, bytes_of, open, resolved};
 pub use label::{LABEL_BYTES, LastStart, StoreAge, StoreLabel, age, spell_label};
-pub use label_file::LabelFound;
+pub use label_found::LabelFound;
 pub use listing::list;
 pub use log_check::is_damaged;
 pub use mark::{Kinship, MARK_BYTES, TreeMark, compare};

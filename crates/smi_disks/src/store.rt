@@ -1,10 +1,14 @@
 //! Stores by their paths.
 
+ghost use Rattle.std.specs.Prelude.{◌≡◌, ◌≢◌, Ok, Err, IfOk, IfErr};
+ghost use Rattle.std.specs.IoError.{error_kind};
+ghost use Rattle.smi_disks.specs.LabelFound.{kinship_by, noted_by};
+
 use crate::file::beside;
-use crate::label::StoreLabel;
-use crate::label_file::{LabelFound, label_beside};
+use crate::label_file::label_beside;
+use crate::label_found::LabelFound;
 use crate::listing::list;
-use crate::mark::{Kinship, TreeMark, compare};
+use crate::mark::{Kinship, TreeMark};
 use crate::store_copy::StoreHealth;
 use crate::sum_file::health_of;
 use crate::watched::{StoreFiles, Surroundings, Watched};
@@ -20,6 +24,8 @@ const LOG: &[u8] = b"-wal";
 #[derive(Drop)]
 pub struct OpenStore<S> {
     pub stable: S,
+    /// What was at the place of its label.
+    pub label: LabelFound,
     /// How the tree that it is opened for compares with the one that it was made for.
     pub kinship: Kinship,
     /// The boot that its label notes of the station that it is opened for.
@@ -42,7 +48,9 @@ pub trait Stores {
         path: &[u8],
         tree: &TreeMark,
         station: u16,
-    ) -> Result<OpenStore<Self::Open>, StoreFault>;
+    ) -> Result<OpenStore<Self::Open>, StoreFault>
+        ensures kinship { IfOk result (λ store. store.kinship ≡ kinship_by store.label tree.now) }
+        ensures noted { IfOk result (λ store. store.noted ≡ noted_by store.label station) };
 
     /// Returns what is seen of the files of a store that nobody has open, before it is opened. If they can't be read,
     /// they count as sound, because the opening tells their fault. Its error is that memory was refused.
@@ -79,11 +87,7 @@ impl Stores for HostRuntime {
     }
 
     fn health(&self, path: &[u8]) -> Result<StoreHealth, StoreFault> {
-        match health_of(self, path) {
-            Ok(found) => Ok(found),
-            Err(e) if e.kind() == ErrorKind::OutOfMemory => Err(StoreFault::Memory),
-            Err(_) => Ok(StoreHealth::Sound),
-        }
+        health_as_found(health_of(self, path))
     }
 
     fn close(&self, stable: Watched<SqliteStable<FileStore<File>>, StoreFiles<HostRuntime>>) {
@@ -101,39 +105,33 @@ impl Stores for HostRuntime {
     }
 }
 
-/// What a label says to one who opens its store.
-#[derive(Clone, Copy)]
-struct LabelSays {
-    kinship: Kinship,
-    /// The tree that it names, or that of the one who opens the store, if it names none.
-    tree: TreeMark,
-    noted: Option<u32>,
-}
-
-impl LabelSays {
-    /// Returns what is said by a label, or by the lack of one, to a station of a tree.
-    fn of(found: LabelFound, own: &TreeMark, station: u16) -> LabelSays {
-        match found {
-            LabelFound::Nothing => LabelSays {
-                kinship: Kinship::Same,
-                tree: *own,
-                noted: None,
-            },
-            LabelFound::Label(label) => LabelSays {
-                kinship: compare(own, &label.tree),
-                tree: label.tree,
-                noted: label.noted(station),
-            },
-            LabelFound::Foreign => LabelSays {
-                kinship: Kinship::Other,
-                tree: *own,
-                noted: None,
-            },
-        }
+/// Returns the fault of a store that could not be looked at.
+fn fault_of(error: &io::Error) -> StoreFault
+    ensures memory { error_kind error.now ≡ ErrorKind.OutOfMemory → result ≡ StoreFault.Memory }
+    ensures device { error_kind error.now ≢ ErrorKind.OutOfMemory → result ≡ StoreFault.Device }
+{
+    match error.kind() {
+        ErrorKind::OutOfMemory => StoreFault::Memory,
+        _ => StoreFault::Device,
     }
 }
 
-/// The files of a store that is open, by its path.
+/// Returns what is told of the files of a store: those that could not be read count as sound.
+fn health_as_found(found: io::Result<StoreHealth>) -> Result<StoreHealth, StoreFault>
+    ensures found { IfOk found (λ health. result ≡ Ok health) }
+    ensures memory { IfErr found (λ e. error_kind e ≡ ErrorKind.OutOfMemory → result ≡ Err StoreFault.Memory) }
+    ensures unread { IfErr found (λ e. error_kind e ≢ ErrorKind.OutOfMemory → result ≡ Ok StoreHealth.Sound) }
+{
+    match found {
+        Ok(health) => Ok(health),
+        Err(e) => match fault_of(&e) {
+            StoreFault::Memory => Err(StoreFault::Memory),
+            StoreFault::Device | StoreFault::Unsure => Ok(StoreHealth::Sound),
+        },
+    }
+}
+
+/// Returns the files of a store that is open, by its path.
 fn files_at(host: &HostRuntime, path: &str, tree: TreeMark) -> io::Result<StoreFiles<HostRuntime>> {
     let log = beside(host.alloc(), path.as_bytes(), LOG)?;
     let log = String::from_utf8_lossy(host.alloc(), log.as_slice())?;
@@ -141,20 +139,18 @@ fn files_at(host: &HostRuntime, path: &str, tree: TreeMark) -> io::Result<StoreF
     StoreFiles::of(host.clone()?, path, log, tree)
 }
 
-/// The files of a store that is open, and what its label says to a station of a tree.
+/// Returns the files of a store that is open, and what is at the place of its label.
 fn surroundings_of(
     host: &HostRuntime,
     path: &str,
     tree: &TreeMark,
-    station: u16,
-) -> io::Result<(StoreFiles<HostRuntime>, LabelSays)> {
-    let found = label_beside(host, path.as_bytes())?;
-    let says = LabelSays::of(found, tree, station);
-    let files = files_at(host, path, says.tree)?;
-    Ok((files, says))
+) -> io::Result<(StoreFiles<HostRuntime>, LabelFound)> {
+    let label = label_beside(host, path.as_bytes())?;
+    let files = files_at(host, path, label.tree(tree))?;
+    Ok((files, label))
 }
 
-/// A store with its files, or what it means that it could not be opened, or that they could not be looked at.
+/// Returns a store with its files, or what it means that it could not be opened, or that they could not be looked at.
 fn watched<S: Alter + Drop>(
     opened: Result<Connection<S>, Error>,
     host: &HostRuntime,
@@ -164,38 +160,42 @@ fn watched<S: Alter + Drop>(
 ) -> Result<OpenStore<Watched<SqliteStable<S>, StoreFiles<HostRuntime>>>, StoreFault>
 where
     Connection<S>: ConnectionEnd,
+    ensures kinship { IfOk result (λ store. store.kinship ≡ kinship_by store.label tree.now) }
+    ensures noted { IfOk result (λ store. store.noted ≡ noted_by store.label station) }
 {
     match opened {
         Ok(connection) => {
-            let found = surroundings_of(host, path, tree, station);
-            beside_its_files(adopted(connection)?, found)
+            let found = surroundings_of(host, path, tree);
+            beside_its_files(adopted(connection)?, found, tree, station)
         }
         Err(Error::SqliteFailure(ErrorCode::OutOfMemory)) => Err(StoreFault::Memory),
         Err(_) => Err(StoreFault::Device),
     }
 }
 
-/// A store with its files, or what it means that these could not be looked at: then it is given up as it is.
+/// Returns a store with its files and what its label says, or what it means that these could not be looked at: then it
+/// is given up as it is.
 fn beside_its_files<S: Alter + Drop, P>(
     stable: SqliteStable<S>,
-    found: io::Result<(P, LabelSays)>,
+    found: io::Result<(P, LabelFound)>,
+    tree: &TreeMark,
+    station: u16,
 ) -> Result<OpenStore<Watched<SqliteStable<S>, P>>, StoreFault>
 where
     Connection<S>: ConnectionEnd,
+    ensures kinship { IfOk result (λ store. store.kinship ≡ kinship_by store.label tree.now) }
+    ensures noted { IfOk result (λ store. store.noted ≡ noted_by store.label station) }
 {
     match found {
-        Ok((files, says)) => Ok(OpenStore {
+        Ok((files, label)) => Ok(OpenStore {
             stable: Watched::new(stable, files),
-            kinship: says.kinship,
-            noted: says.noted,
+            label,
+            kinship: label.kinship(tree),
+            noted: label.noted(station),
         }),
         Err(e) => {
             given_up(stable);
-            if e.kind() == ErrorKind::OutOfMemory {
-                Err(StoreFault::Memory)
-            } else {
-                Err(StoreFault::Device)
-            }
+            Err(fault_of(&e))
         }
     }
 }
