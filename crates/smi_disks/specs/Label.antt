@@ -53,3 +53,8 @@ start_so station (Some Boot) row =
 -- the start that a row is of, which a boot row alone is
 abbrev pub start_in : Key → List ℕ → Option LastStart
 start_in key row = start_so key.station (kind_of key) row
+
+-- the start that is noted last after a row is saved: its own, if it is a boot row
+abbrev pub noted_after : Option LastStart → Option LastStart → Option LastStart
+noted_after None before = before
+noted_after (Some start) before = Some start

@@ -5,3 +5,4 @@ pub mod Mark
 pub mod Spoken
 pub mod LogCheck
 pub mod StoreCopy
+pub mod Surroundings

@@ -29,6 +29,7 @@ mod speaking;
 mod store;
 mod store_copy;
 mod sum_file;
+mod surroundings;
 mod watched;
 
 pub use file::{beside, bytes_of, open, resolved};
@@ -40,4 +41,5 @@ pub use mark::{Kinship, MARK_BYTES, TreeMark, compare};
 pub use speaking::{digest, speak};
 pub use store::{OpenStore, Stores};
 pub use store_copy::{COPY_BYTES, StoreCopy, StoreHealth, health, spell_copy};
-pub use watched::{LogState, StoreFiles, Surroundings, Watched};
+pub use surroundings::{StoreFiles, Surroundings};
+pub use watched::{LogState, Watched};

@@ -2,7 +2,7 @@
 
 ghost use Rattle.std.specs.Prelude.{◌≡◌, ◌≢◌, Ok, Err, IfOk, IfErr};
 ghost use Rattle.std.specs.IoError.{error_kind};
-ghost use Rattle.smi_disks.specs.LabelFound.{kinship_by, noted_by};
+ghost use Rattle.smi_disks.specs.LabelFound.{kinship_by, noted_by, tree_by};
 
 use crate::file::beside;
 use crate::label_file::label_beside;
@@ -11,7 +11,8 @@ use crate::listing::list;
 use crate::mark::{Kinship, TreeMark};
 use crate::store_copy::StoreHealth;
 use crate::sum_file::health_of;
-use crate::watched::{StoreFiles, Surroundings, Watched};
+use crate::surroundings::{StoreFiles, Surroundings};
+use crate::watched::Watched;
 use smi_commands::rows::Listed;
 use smi_stable::{LoggedStable, SqliteStable, StoreFault};
 use sqlite::{Alter, Connection, Error, ErrorCode, File, FileStore};
@@ -91,6 +92,7 @@ impl Stores for HostRuntime {
     }
 
     fn close(&self, stable: Watched<SqliteStable<FileStore<File>>, StoreFiles<HostRuntime>>) {
+        let mut stable = stable;
         if stable.may_be_closed() {
             let (stable, mut files) = stable.into_parts();
             closed(stable);
@@ -132,7 +134,9 @@ fn health_as_found(found: io::Result<StoreHealth>) -> Result<StoreHealth, StoreF
 }
 
 /// Returns the files of a store that is open, by its path.
-fn files_at(host: &HostRuntime, path: &str, tree: TreeMark) -> io::Result<StoreFiles<HostRuntime>> {
+fn files_at(host: &HostRuntime, path: &str, tree: TreeMark) -> io::Result<StoreFiles<HostRuntime>>
+    ensures { IfOk result (λ files. files.tree ≡ tree) }
+{
     let log = beside(host.alloc(), path.as_bytes(), LOG)?;
     let log = String::from_utf8_lossy(host.alloc(), log.as_slice())?;
     let path = String::from_str(host.alloc(), path)?;
@@ -144,7 +148,9 @@ fn surroundings_of(
     host: &HostRuntime,
     path: &str,
     tree: &TreeMark,
-) -> io::Result<(StoreFiles<HostRuntime>, LabelFound)> {
+) -> io::Result<(StoreFiles<HostRuntime>, LabelFound)>
+    ensures { IfOk result (λ found. found.0.tree ≡ tree_by found.1 tree.now) }
+{
     let label = label_beside(host, path.as_bytes())?;
     let files = files_at(host, path, label.tree(tree))?;
     Ok((files, label))
@@ -162,6 +168,7 @@ where
     Connection<S>: ConnectionEnd,
     ensures kinship { IfOk result (λ store. store.kinship ≡ kinship_by store.label tree.now) }
     ensures noted { IfOk result (λ store. store.noted ≡ noted_by store.label station) }
+    ensures tree { IfOk result (λ store. store.stable.surroundings.tree ≡ tree_by store.label tree.now) }
 {
     match opened {
         Ok(connection) => {
@@ -185,6 +192,7 @@ where
     Connection<S>: ConnectionEnd,
     ensures kinship { IfOk result (λ store. store.kinship ≡ kinship_by store.label tree.now) }
     ensures noted { IfOk result (λ store. store.noted ≡ noted_by store.label station) }
+    ensures found { IfOk result (λ store. found ≡ Ok (store.stable.surroundings, store.label)) }
 {
     match found {
         Ok((files, label)) => Ok(OpenStore {

@@ -1,115 +1,19 @@
 //! A store whose files may be taken away while it is open.
 
-ghost use Rattle.std.specs.Prelude.{◌+◌, ◌≡◌};
-ghost use Rattle.smi_disks.specs.Label.{start_in};
+ghost use Rattle.std.specs.Prelude.{◌+◌, ◌≡◌, ◌<◌, ◌≤◌, ◌⊎◌, true, Err, OnOk};
+ghost use Rattle.smi_rows.specs.Store.{Rows, IsSame, with_row};
+ghost use Rattle.smi_rows.specs.Store.{IfSure, IfNotSaved, IfUnsure, IfFailed, IfCalm};
+ghost use Rattle.smi_disks.specs.Label.{noted_after, start_in};
 
 use crate::label::LastStart;
-use crate::label_file::LabelFile;
-use crate::mark::TreeMark;
-use crate::sum_file::SumFile;
+use crate::surroundings::Surroundings;
 use smi_base::{Tally, u32_at};
 use smi_rows::{Key, RowKind, SavedRow, Stable, StoreFault};
 use smi_stable::LoggedStable;
 use std::alloc::Global;
-use std::os::unix::fs::MetadataExt;
-use std::rt::Files;
-use std::{fs, io};
 
 /// How many bytes a boot row has.
 const BOOT_BYTES: usize = 8;
-
-/// What is beside a store that is open: its files at their paths, and its label.
-pub trait Surroundings {
-    /// Returns true if the files of the store are where they were, as far as the system tells it.
-    fn are_in_place(&self) -> bool;
-
-    /// Notes in the label that a station has started. Returns false if that could not be written.
-    fn note(&mut self, start: LastStart) -> bool;
-
-    /// Notes what the file of the store is, once its log was copied into it. If that can't be written, a later start
-    /// has nothing to compare it with.
-    fn note_copy(&mut self);
-}
-
-/// Which file of the system a file is.
-#[derive(Clone, Copy, PartialEq, Eq)]
-struct FileId {
-    device: u64,
-    number: u64,
-}
-
-impl FileId {
-    /// Returns which file is at a path now.
-    fn of<H: Files>(host: &H, path: &str) -> io::Result<FileId> {
-        let found = fs::metadata(host, path)?;
-        Ok(FileId {
-            device: found.dev(),
-            number: found.ino(),
-        })
-    }
-
-    /// Returns true if this file is at a path. If the system does not tell, it counts as there.
-    fn is_at<H: Files>(self, host: &H, path: &str) -> bool {
-        match FileId::of(host, path) {
-            Ok(found) => found.device == self.device && found.number == self.number,
-            Err(e) => e.kind() != io::ErrorKind::NotFound,
-        }
-    }
-}
-
-/// The files of a store, which were at its paths when it was opened, and the tree that its label names.
-#[derive(Drop)]
-pub struct StoreFiles<H> {
-    host: H,
-    path: String,
-    log_path: String,
-    file: FileId,
-    log: FileId,
-    label: LabelFile,
-    sum: SumFile,
-    tree: TreeMark,
-}
-
-impl<H: Files + AllocGlobal + Drop> StoreFiles<H> {
-    /// Returns the files that are at these paths now: that of a store, and that of its log.
-    pub fn of(
-        host: H,
-        path: String,
-        log_path: String,
-        tree: TreeMark,
-    ) -> io::Result<StoreFiles<H>> {
-        let file = FileId::of(&host, path.as_str())?;
-        let log = FileId::of(&host, log_path.as_str())?;
-        let label = LabelFile::of(host.alloc(), path.as_str())?;
-        let sum = SumFile::of(host.alloc(), path.as_str())?;
-        Ok(StoreFiles {
-            host,
-            path,
-            log_path,
-            file,
-            log,
-            label,
-            sum,
-            tree,
-        })
-    }
-}
-
-impl<H: Files + AllocGlobal + Drop> Surroundings for StoreFiles<H> {
-    fn are_in_place(&self) -> bool {
-        self.file.is_at(&self.host, self.path.as_str())
-            && self.log.is_at(&self.host, self.log_path.as_str())
-    }
-
-    fn note(&mut self, start: LastStart) -> bool {
-        let (host, path) = (&self.host, self.path.as_str());
-        self.label.put(host, path, &self.tree, start).is_ok()
-    }
-
-    fn note_copy(&mut self) {
-        let _ = self.sum.note(&self.host, self.path.as_str());
-    }
-}
 
 /// What the log of a store holds beside the file.
 #[derive(Clone, Copy, PartialEq, Eq)]
@@ -122,7 +26,7 @@ pub enum LogState {
     Quiet,
 }
 
-/// A store that saves only while its files are where they were, and notes each start in its label. If a file is gone, a
+/// A store that saves only while its files are in place, and notes each start in its label. If a file is gone, a
 /// save is answered `Unsure` and nothing is written, so that the station stops: rows in a file that nobody can open
 /// again would be lost at its next start. If a start could not be noted, its boot row is saved, and `Unsure` is
 /// answered too.
@@ -144,6 +48,8 @@ impl<S, P> Watched<S, P> {
     /// Watches over a store that is open.
     pub fn new(store: S, surroundings: P) -> Watched<S, P>
         ensures store { result.store ≡ store }
+        ensures surroundings { result.surroundings ≡ surroundings }
+        ensures saves { result.saves.count ≡ 0 }
         ensures missed { result.missed.count ≡ 0 }
         ensures lost { result.is_lost ≡ false }
         ensures log { result.log ≡ LogState.Copied }
@@ -186,11 +92,14 @@ impl<S, P> Watched<S, P> {
 
 impl<S, P: Surroundings> Watched<S, P> {
     ghost use Rattle.std.specs.Prelude.{◌≡◌, ◌+◌, true, false, IfErr, OnErr, OnOk};
+    ghost use Rattle.smi_disks.specs.Label.{noted_after, start_in};
 
     /// Returns true if its log may be copied into its file: no save found a file gone, and none is gone now. What is
     /// copied into a file without a name is lost, and the log with it.
-    pub fn may_be_closed(&self) -> bool
-        ensures { self.now.is_lost ≡ true → result ≡ false }
+    pub fn may_be_closed(&mut self) -> bool
+        ensures lost { self.old.is_lost ≡ true → result ≡ false }
+        ensures gone { P.found self.new.surroundings ≡ P.found self.old.surroundings → result ≡ false }
+        ensures kept { self.new ≡ record self.old { surroundings = self.new.surroundings } }
     {
         !self.is_lost && self.surroundings.are_in_place()
     }
@@ -199,6 +108,10 @@ impl<S, P: Surroundings> Watched<S, P> {
     fn note(&mut self, key: Key, bytes: &[u8]) -> Result<(), StoreFault>
         ensures store { self.new.store ≡ self.old.store }
         ensures saves { self.new.saves ≡ self.old.saves }
+        ensures log { self.new.log ≡ self.old.log }
+        ensures found { P.found self.new.surroundings ≡ P.found self.old.surroundings }
+        ensures noted { OnOk result (P.noted self.new.surroundings
+            ≡ noted_after (start_in key bytes.now) (P.noted self.old.surroundings)) }
         ensures unsure { IfErr result (λ fault. fault ≡ StoreFault.Unsure) }
         ensures missed { OnErr result (self.new.missed.count ≡ self.old.missed.count + 1) }
         ensures kept { OnOk result (self.new.missed ≡ self.old.missed) }
@@ -242,7 +155,39 @@ impl<S: Stable, P: Surroundings> Stable for Watched<S, P> {
 
     ghost rests = { λ w. S.rests w.store };
 
-    fn save(&mut self, key: Key, bytes: &[u8]) -> Result<(), StoreFault> {
+    fn save(&mut self, key: Key, bytes: &[u8]) -> Result<(), StoreFault>
+        ensures saved { S.is_honest self.new.store
+            → OnOk result (S.is_open self.new.store × IsSame (S.rows self.new.store)
+            (with_row key bytes.now (S.rows self.old.store))) }
+        ensures kept { S.is_honest self.new.store → IfNotSaved result
+            (S.is_open self.old.store → S.is_open self.new.store
+            × IsSame (S.rows self.new.store) (S.rows self.old.store)) }
+        ensures unsure { S.is_honest self.new.store → S.is_open self.new.store
+            → IfUnsure result (IsSame (S.rows self.new.store) (S.rows self.old.store)
+            ⊎ IsSame (S.rows self.new.store) (with_row key bytes.now (S.rows self.old.store))) }
+        ensures crash { S.is_honest self.new.store → S.is_open self.old.store → (r : Rows)
+            → S.may_find self.new.store r → IsSame r (S.rows self.old.store)
+            ⊎ IsSame r (with_row key bytes.now (S.rows self.old.store)) }
+        ensures honest { S.is_honest self.new.store → S.is_honest self.old.store }
+        ensures saves { self.new.saves.count ≡ self.old.saves.count + 1 }
+        ensures failures { S.failures self.old.store + self.old.missed.count ≤ S.failures self.new.store
+            + self.new.missed.count }
+        ensures cause { IfFailed result (S.failures self.old.store + self.old.missed.count
+            < S.failures self.new.store + self.new.missed.count) }
+        ensures calm { IfCalm result (S.failures self.new.store + self.new.missed.count
+            ≡ S.failures self.old.store + self.old.missed.count) }
+        ensures doubt { IfUnsure result (S.doubts self.old.store + self.old.missed.count
+            < S.doubts self.new.store + self.new.missed.count) }
+        ensures sure { IfSure result (S.doubts self.new.store + self.new.missed.count
+            ≡ S.doubts self.old.store + self.old.missed.count) }
+        // Unless its files were found in place, nothing is saved, and it is lost.
+        ensures gone { P.found self.new.surroundings ≡ P.found self.old.surroundings
+            → (self.new.store ≡ self.old.store) × (result ≡ Err StoreFault.Unsure) × (self.new.is_lost ≡ true) }
+        // The start of a boot row is noted once the row is saved.
+        ensures noted { OnOk result (P.noted self.new.surroundings
+            ≡ noted_after (start_in key bytes.now) (P.noted self.old.surroundings)) }
+        ensures grown { OnOk result (self.new.log ≡ LogState.Grown) }
+    {
         self.saves.raise();
         if !self.surroundings.are_in_place() {
             self.is_lost = true;
@@ -262,19 +207,47 @@ impl<S: Stable, P: Surroundings> Stable for Watched<S, P> {
 impl<S: LoggedStable, P: Surroundings> LoggedStable for Watched<S, P> {
     /// Copies the log at the second call after a save, so that it is copied once nothing was saved for a while. It is
     /// left as it is while a file is gone, because the one that is open may then be another one's.
-    fn copy_log(&mut self, alloc: Global) -> Result<(), StoreFault> {
+    fn copy_log(&mut self, alloc: Global) -> Result<(), StoreFault>
+        ensures open { S.is_honest self.new.store → S.is_open self.old.store
+            → IfSure result (S.is_open self.new.store) }
+        ensures kept { S.is_honest self.new.store → S.is_open self.old.store → S.is_open self.new.store
+            → IsSame (S.rows self.new.store) (S.rows self.old.store) }
+        ensures crash { S.is_honest self.new.store → S.is_open self.old.store → (r : Rows)
+            → S.may_find self.new.store r → IsSame r (S.rows self.old.store) }
+        ensures honest { S.is_honest self.new.store → S.is_honest self.old.store }
+        ensures saves { self.new.saves.count ≡ self.old.saves.count }
+        ensures failures { S.failures self.old.store + self.old.missed.count ≤ S.failures self.new.store
+            + self.new.missed.count }
+        ensures cause { IfFailed result (S.failures self.old.store + self.old.missed.count
+            < S.failures self.new.store + self.new.missed.count) }
+        ensures calm { IfCalm result (S.failures self.new.store + self.new.missed.count
+            ≡ S.failures self.old.store + self.old.missed.count) }
+        ensures doubt { IfUnsure result (S.doubts self.old.store + self.old.missed.count
+            < S.doubts self.new.store + self.new.missed.count) }
+        ensures sure { IfSure result (S.doubts self.new.store + self.new.missed.count
+            ≡ S.doubts self.old.store + self.old.missed.count) }
+        // Nothing is copied unless the files were found in place, nor by a store that is lost.
+        ensures gone { P.found self.new.surroundings ≡ P.found self.old.surroundings
+            → self.new.store ≡ self.old.store }
+        ensures lost { self.old.is_lost ≡ true → self.new.store ≡ self.old.store }
+        // The first call after a save copies nothing.
+        ensures waits { self.old.log ≡ LogState.Grown
+            → (self.new.log ≡ LogState.Quiet) × (self.new.store ≡ self.old.store) }
+    {
         match self.log {
-            LogState::Quiet if self.may_be_closed() => {
-                self.log = LogState::Copied;
-                self.store.copy_log(alloc)?;
-                self.surroundings.note_copy();
-                Ok(())
-            }
+            LogState::Copied => Ok(()),
             LogState::Grown => {
                 self.log = LogState::Quiet;
                 Ok(())
             }
-            LogState::Copied | LogState::Quiet => Ok(()),
+            LogState::Quiet => {
+                if self.may_be_closed() {
+                    self.log = LogState::Copied;
+                    self.store.copy_log(alloc)?;
+                    self.surroundings.note_copy();
+                }
+                Ok(())
+            }
         }
     }
 }
