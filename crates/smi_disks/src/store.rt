@@ -93,7 +93,7 @@ impl Stores for HostRuntime {
 
     fn close(&self, stable: Watched<SqliteStable<FileStore<File>>, StoreFiles<HostRuntime>>) {
         let mut stable = stable;
-        if stable.may_be_closed() {
+        if stable.may_copy_log() {
             let (stable, mut files) = stable.into_parts();
             closed(stable);
             files.note_copy();
@@ -210,10 +210,10 @@ where
 
 /// How a connection ends.
 trait ConnectionEnd {
-    /// It is closed, as far as that can be done: its log is copied into its file.
+    /// Closes it, as far as that can be done: copies its log into its file.
     fn end(self);
 
-    /// Its files are closed as they are.
+    /// Closes its files as they are.
     fn abandon(self);
 }
 
@@ -228,6 +228,8 @@ impl ConnectionEnd for Connection<FileStore<File>> {
 }
 
 // All three over any store, since each function that names the store of SQLite is expensive to prove.
+
+/// Takes a connection for a store, or closes it if it is none.
 fn adopted<S: Alter>(connection: Connection<S>) -> Result<SqliteStable<S>, StoreFault>
 where
     Connection<S>: ConnectionEnd,
@@ -241,6 +243,7 @@ where
     }
 }
 
+/// Closes a store, and copies its log into its file.
 fn closed<S: Alter + Drop>(stable: SqliteStable<S>)
 where
     Connection<S>: ConnectionEnd,
@@ -251,6 +254,7 @@ where
     }
 }
 
+/// Closes the files of a store as they are.
 fn given_up<S: Alter + Drop>(stable: SqliteStable<S>)
 where
     Connection<S>: ConnectionEnd,

@@ -1,4 +1,7 @@
-//! What a store was when its log had been copied into its file, and whether its files are still so.
+//! Compares the file of a store with what it was when its log had been copied into it.
+//!
+//! What it was is a [`StoreCopy`]: a sum of the file, and the salts of the log. Its 40 bytes are its note, which the
+//! file `STORE-sum` has.
 
 ghost use Rattle.std.specs.Prelude.{◌≡◌, OnOk};
 ghost use Rattle.sha2.specs.Sha256.{sha256};
@@ -47,7 +50,7 @@ impl StoreCopy {
     ghost use Rattle.std.specs.Prelude.{◌≡◌, ◌≢◌, length, IfSome, None};
     ghost use Rattle.smi_disks.specs.StoreCopy as spec;
 
-    /// Returns what a store is now, by its file and its log. Nothing, if its log has something that is not copied.
+    /// Returns what a store is now, by its file and its log. None if its log has something that is not copied.
     pub fn of_files(file: &[u8], log: &[u8]) -> Option<StoreCopy>
         ensures { result ≡ spec.copy_of file.now log.now }
     {
@@ -60,7 +63,7 @@ impl StoreCopy {
         }
     }
 
-    /// Returns the note of these bytes. None if they are as many as no note has.
+    /// Reads a note. None if it has not [`COPY_BYTES`] bytes.
     pub fn of(bytes: &[u8]) -> Option<StoreCopy>
         ensures found { IfSome result (λ copy. bytes.now ≡ spec.copy_bytes copy) }
         ensures none { result ≡ None → length bytes.now ≢ COPY_BYTES }
@@ -76,7 +79,7 @@ impl StoreCopy {
         Some(StoreCopy { salts, sum })
     }
 
-    /// Returns true if a file is not what it was, though its log has had nothing since.
+    /// Returns true if nothing was logged since the note, and the file has another sum.
     fn differs(&self, file: &[u8], log: &[u8]) -> bool
         ensures { result ≡ spec.differs self.now file.now log.now }
     {

@@ -12,13 +12,13 @@ use smi_rows::{Key, RowKind, SavedRow, Stable, StoreFault};
 use smi_stable::LoggedStable;
 use std::alloc::Global;
 
-/// How many bytes a boot row has.
+/// How many bytes a boot row has at least: a head of four bytes, and the boot.
 const BOOT_BYTES: usize = 8;
 
 /// What the log of a store holds beside the file.
 #[derive(Clone, Copy, PartialEq, Eq)]
 pub enum LogState {
-    /// Nothing that the file does not hold too.
+    /// Nothing that was saved since it was opened, or since it was last to be copied.
     Copied,
     /// Rows that were saved since [`LoggedStable::copy_log`] was called last.
     Grown,
@@ -96,7 +96,7 @@ impl<S, P: Surroundings> Watched<S, P> {
 
     /// Returns true if its log may be copied into its file: no save found a file gone, and none is gone now. What is
     /// copied into a file without a name is lost, and the log with it.
-    pub fn may_be_closed(&mut self) -> bool
+    pub fn may_copy_log(&mut self) -> bool
         ensures lost { self.old.is_lost ≡ true → result ≡ false }
         ensures gone { P.found self.new.surroundings ≡ P.found self.old.surroundings → result ≡ false }
         ensures kept { self.new ≡ record self.old { surroundings = self.new.surroundings } }
@@ -241,7 +241,7 @@ impl<S: LoggedStable, P: Surroundings> LoggedStable for Watched<S, P> {
                 Ok(())
             }
             LogState::Quiet => {
-                if self.may_be_closed() {
+                if self.may_copy_log() {
                     self.log = LogState::Copied;
                     self.store.copy_log(alloc)?;
                     self.surroundings.note_copy();
