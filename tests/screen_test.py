@@ -102,6 +102,21 @@ def test_lines(smi, folder, worked, subtests):
             assert ran(tree, "SCREEN", store, "--http", http) == (b"", b"link fault\n", 3)
 
 
+def test_a_screen_for_other_machines(program, folder, subtests):
+    """It answers to the name that it is given, and not to the names that only this machine has."""
+    tree = nodes.write_tree(folder, None, screens.with_screen(nodes.tree_lines(nodes.free_ports(2)),
+                                                              nodes.free_ports(1)[0]))
+    screen = screens.Screen(program, tree, screens.store_of(folder, "screen"), address="0.0.0.0",
+                            more=["--endless", "--open", "--host", "daq"])
+    screen.host = "daq:%d" % screen.port
+    with subtests.test("by its name"):
+        assert screen.is_up() and screen.get("/healthz") == (200, b"ok")
+    for host in ("localhost", "127.0.0.1"):
+        with subtests.test("to %s, no" % host):
+            assert screen.get("/healthz", host="%s:%d" % (host, screen.port)) == (421, b"this is another host")
+    screen.end()
+
+
 def test_answers(world, subtests):
     """Each method, host and place: status and body."""
     screen = world.screen

@@ -41,10 +41,10 @@ def at_home(lines):
 class Screen:
     """A running screen."""
 
-    def __init__(self, program, tree, store, more=("--endless",), port=None, **how):
+    def __init__(self, program, tree, store, more=("--endless",), port=None, address="127.0.0.1", **how):
         self.port = port or tcp_port()
         self.host = "127.0.0.1:%d" % self.port
-        words = [program, "screen", tree, STATION, store, "--http", self.host, *more]
+        words = [program, "screen", tree, STATION, store, "--http", "%s:%d" % (address, self.port), *more]
         self.child = subprocess.Popen(list(map(str, words)), stdin=subprocess.DEVNULL, stdout=subprocess.PIPE,
                                       stderr=subprocess.PIPE, text=True, **how)
 
