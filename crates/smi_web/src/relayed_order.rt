@@ -1,4 +1,6 @@
 //! An order that was given from a page, and what became of it.
+//!
+//! Only a line that is an order (`is_order_line`) becomes one, so neither the order nor the name has a line feed.
 
 ghost use Rattle.std.specs.Prelude.{◌≡◌, ◌++◌, drop, IfOk, OnOk, option_map};
 ghost use Rattle.smi_web.specs.RelayedOrder as spec;
@@ -20,8 +22,9 @@ pub struct RelayedOrder {
     pub line: Bytes,
     /// Who has given it, if the page said so.
     pub name: Option<Bytes>,
-    /// When it was given, in milliseconds.
+    /// When it was given, in milliseconds since the screen began.
     pub given: u64,
+    /// What the console answered; none until it has.
     pub answer: Option<Reply>,
 }
 
@@ -122,14 +125,15 @@ impl RelayedOrder {
         Ok(text)
     }
 
-    /// Returns true if it waits for its answer once those before the order `first` wait no more.
+    /// Returns true if it has no answer yet, and was given on this connection with the console: the first order that
+    /// was given on it has the number `first`.
     pub(crate) fn is_waiting(&self, first: u64) -> bool
         ensures { result ≡ spec.is_waiting first self.now }
     {
         self.answer.is_none() && first <= self.number
     }
 
-    /// Returns true if a line answers it.
+    /// Returns true if a line of this connection answers it.
     pub(crate) fn is_answered_by(&self, first: u64, line: &[u8]) -> bool
         ensures { result ≡ spec.is_answered_by first line.now self.now }
     {

@@ -1,4 +1,6 @@
 //! The tree as JSON: what does not change while a program runs.
+//!
+//! Each list is closed by what is written after it. So `Kind::before` begins with a bracket, but for the first kind.
 
 ghost use Rattle.std.specs.Prelude.{◌≡◌, ◌++◌, IfOk, OnOk, option_map};
 ghost use Rattle.smi_tree.specs.Hierarchy.{entry};
@@ -59,6 +61,7 @@ fn domain_of(tree: &Tree, device: u16) -> Option<u16>
     }
 }
 
+/// Writes the name of a station, or `null`.
 fn put_station(text: &mut Vec<u8>, tree: &Tree, station: Option<u16>) -> Result<(), AllocError>
     ensures { OnOk result (text.new.items ≡
         text.old.items ++ or_null (option_map (λ s. quoted (station_word tree.now s)) station)) }
@@ -69,6 +72,7 @@ fn put_station(text: &mut Vec<u8>, tree: &Tree, station: Option<u16>) -> Result<
     }
 }
 
+/// Writes the name of a domain, or `null`.
 fn put_domain(text: &mut Vec<u8>, tree: &Tree, domain: Option<u16>) -> Result<(), AllocError>
     ensures { OnOk result (text.new.items ≡
         text.old.items ++ or_null (option_map (λ d. quoted (domain_word tree.now d)) domain)) }
@@ -79,6 +83,7 @@ fn put_domain(text: &mut Vec<u8>, tree: &Tree, domain: Option<u16>) -> Result<()
     }
 }
 
+/// Writes an operator: its name and its station.
 fn put_operator(text: &mut Vec<u8>, tree: &Tree, number: u16) -> Result<(), AllocError>
     ensures { OnOk result (text.new.items ≡ text.old.items ++ operator_shape tree.now number) }
 {
@@ -106,6 +111,7 @@ impl<'a> Listing for Accepting<'a> {
     }
 }
 
+/// Writes which actions a domain accepts. The caller closes the list.
 fn put_accepted(text: &mut Vec<u8>, tree: &Tree, domain: u16) -> Result<(), AllocError>
     ensures { OnOk result (text.new.items ≡ text.old.items ++ accepted_text tree.now domain) }
 {
@@ -118,7 +124,7 @@ fn put_accepted(text: &mut Vec<u8>, tree: &Tree, domain: u16) -> Result<(), Allo
     Ok(())
 }
 
-/// Writes the station and the parent of a domain.
+/// Begins a domain: writes its name, its station and its parent.
 #[tactic(auto, unfolding(crate::specs::TreeJson::place_text))]
 fn put_place(text: &mut Vec<u8>, tree: &Tree, number: u16) -> Result<(), AllocError>
     ensures { OnOk result (text.new.items ≡ text.old.items ++ place_text tree.now number) }
@@ -131,6 +137,7 @@ fn put_place(text: &mut Vec<u8>, tree: &Tree, number: u16) -> Result<(), AllocEr
     put_domain(text, tree, tree.parent(number))
 }
 
+/// Writes a domain.
 fn put_whole_domain(text: &mut Vec<u8>, tree: &Tree, number: u16) -> Result<(), AllocError>
     ensures { OnOk result (text.new.items ≡ text.old.items ++ domain_shape tree.now number) }
 {
@@ -139,6 +146,7 @@ fn put_whole_domain(text: &mut Vec<u8>, tree: &Tree, number: u16) -> Result<(), 
     put(text, b"]}")
 }
 
+/// Writes a device: its name and its domain.
 fn put_device(text: &mut Vec<u8>, tree: &Tree, number: u16) -> Result<(), AllocError>
     ensures { OnOk result (text.new.items ≡ text.old.items ++ device_shape tree.now number) }
 {
@@ -186,7 +194,7 @@ impl<'a> Listing for All<'a> {
 }
 
 impl Kind {
-    /// Writes what comes before the list of a kind.
+    /// Returns what comes before the list of a kind.
     fn before(self) -> &'static [u8]
         ensures { result.now ≡ before_text self }
     {
@@ -224,6 +232,7 @@ fn put_kinds(text: &mut Vec<u8>, tree: &Tree, kind: Kind) -> Result<(), AllocErr
     Ok(())
 }
 
+/// Writes all that a tree has by number. The caller closes the last list.
 fn put_all_kinds(text: &mut Vec<u8>, tree: &Tree) -> Result<(), AllocError>
     ensures { OnOk result (text.new.items ≡ text.old.items ++ all_kinds_text tree.now) }
 {
@@ -243,6 +252,7 @@ pub fn write_tree(alloc: Global, tree: &Tree) -> Result<Vec<u8>, AllocError>
     ensures { IfOk result (λ text. text.items ≡ tree_text tree.now) }
 {
     let mut text = Vec::new(alloc);
+    // the version of the program, which is in specs/TreeJson too
     put_number(
         &mut text,
         b"{\"version\":\"0.9\",\"tree\":",
