@@ -1,4 +1,5 @@
-//! Forwards the answers, the states and the actions of a node's steps to the thread of its sessions.
+//! Forwards the states, the modes and the actions of a node's steps to the thread of its sessions, and wakes it for
+//! these and for answers.
 
 use crate::event_queue::{EventQueue, StationNews};
 use smi_grant::{Holder, Shown};
@@ -14,14 +15,17 @@ use std::fs::Files;
 use std::sync::{Arc, Wait};
 use std::time::Clock;
 
-/// Forwards the states that the objects of its station pass through, those that the station takes, and the actions that
-/// it does, and wakes that thread at the end of a turn that brought it an answer or news.
+/// Forwards the states that the objects of its station pass through, those of other stations' objects that it was told,
+/// the modes of children, and the actions that it does. It wakes the thread of the sessions at the end of a turn that
+/// brought an answer or news.
 ///
 /// A state for which there is no room is told at a later step, as the newest of its object by then. So is the mode of a
-/// child.
+/// child, at a later step that saved a row.
 #[derive(Drop)]
 pub(crate) struct EventForwarder<H: Files + Drop> {
+    /// The tree of the station.
     tree: Arc<Tree, Global>,
+    /// The way to the thread of the sessions.
     queue: EventQueue<H>,
     /// The states that are not told yet, by object, and whether there are any.
     coalesced: Vec<Option<Shown>>,
@@ -47,7 +51,7 @@ fn mode_of<T: StationState>(tree: &Tree, station: &T, child: u16) -> Option<Chil
     }
 }
 
-/// Returns true if a mode is the one that was told.
+/// Returns true if a mode is the one that was told. It compares by hand, because modes of children have no `==`.
 fn is_told(told: Option<ChildMode>, mode: ChildMode) -> bool {
     matches!(
         (told, mode),
@@ -161,6 +165,7 @@ impl<H: Files + Wait + Clock + Drop> EventForwarder<H> {
         let Some(done) = step_action(&self.tree, event, made) else {
             return;
         };
+        // Objects are numbered: first the domains, and then the devices.
         for device in done.devices {
             let object = self.tree.domain_count().saturating_add(*device);
             if let Some(shown) = station.current(object) {
@@ -199,6 +204,7 @@ impl<H: Files + Wait + Clock + Drop> EventForwarder<H> {
         for shown in out.transitions().as_slice() {
             self.send_or_coalesce(*shown);
         }
+        // A mode changes only with a row that is saved.
         if matches!(made, Ok(Heard::Done)) {
             self.send_modes(station);
         }

@@ -1,4 +1,4 @@
-//! The queue of events from the station's thread to that of the sessions.
+//! The queue of news from the station's thread to that of the sessions.
 
 use crate::console_waker::ConsoleWaker;
 use crossbeam_channel::Sender;
@@ -7,7 +7,7 @@ use std::alloc::{AllocError, Global};
 use std::collections::VecDeque;
 use std::sync::{Arc, Wait};
 
-/// How many events may wait here, beside those in the channel.
+/// How much news may wait here, beside what is in the channel.
 const MOST_WAITING: usize = 4_096;
 
 /// What the thread of the sessions is told of the station.
@@ -19,11 +19,12 @@ pub(crate) enum StationNews {
     Mode(ChildState),
 }
 
-/// The channel of events, and those that wait for it.
+/// The channel of news, and what waits for it.
 #[derive(Drop)]
 struct EventQueueParts<H: Drop> {
     rt: H,
     waker: Arc<ConsoleWaker, Global>,
+    /// The channel.
     way: Sender<StationNews>,
     waiting: VecDeque<StationNews>,
     /// How many actions were dropped, because the queue was full.
@@ -32,7 +33,7 @@ struct EventQueueParts<H: Drop> {
     is_due: bool,
 }
 
-/// Hands on news in their order, and never waits. What the way has no room for waits here, up to a bound; actions
+/// Hands on news in their order, and never blocks. What the channel has no room for waits here, up to a bound. Actions
 /// beyond it are counted, and their count is told before any later action.
 #[derive(Drop)]
 pub(crate) struct EventQueue<H: Drop> {
@@ -65,8 +66,8 @@ impl<H: Wait + Drop> EventQueue<H> {
         self.parts.is_due = true;
     }
 
-    /// Wakes the thread of the sessions, if it is to be woken: what a turn brought about is on the board and in the
-    /// seats by now.
+    /// Wakes the thread of the sessions, if it is to be woken. Only the end of a turn does so: the states that the turn
+    /// has published and the orders that it has answered are there to be read by then.
     pub(crate) fn end_turn(&mut self) {
         if self.parts.is_due {
             self.parts.is_due = false;
@@ -74,7 +75,7 @@ impl<H: Wait + Drop> EventQueue<H> {
         }
     }
 
-    /// Hands on what waits, as far as the way has room.
+    /// Hands on what waits, as far as the channel has room.
     fn hand_on(&mut self) {
         let parts = &mut *self.parts;
         for _ in 0..MOST_WAITING {
@@ -82,6 +83,7 @@ impl<H: Wait + Drop> EventQueue<H> {
                 return;
             };
             if parts.way.try_send(&parts.rt, news).is_err() {
+                // It is full, or nobody receives any more.
                 return;
             }
             let _ = parts.waiting.pop_front();
@@ -89,7 +91,7 @@ impl<H: Wait + Drop> EventQueue<H> {
         }
     }
 
-    /// Tells news. Returns whether there was room.
+    /// Tells news. Returns false if there is no room: then it is the caller's to tell it later.
     pub(crate) fn tell(&mut self, news: StationNews) -> bool {
         let waiting = &mut self.parts.waiting;
         if waiting.len() >= MOST_WAITING || waiting.push_back(news).is_err() {

@@ -24,6 +24,7 @@ impl From<AllocError> for StartError {
     }
 }
 
+// Any other error counts as one of the link: what has to do with a console or the journal is mapped where it happens.
 impl From<io::Error> for StartError {
     fn from(error: io::Error) -> StartError {
         if error.kind() == ErrorKind::OutOfMemory {

@@ -1,4 +1,4 @@
-//! The lines of a node that does not begin.
+//! The lines of faults, which a node or a screen prints on standard error, and their statuses (docs/NUMBERS.md).
 
 ghost use Rattle.std.specs.Prelude.{◌≡◌};
 ghost use Rattle.smi_commands.specs.declared.status.Status.TheVariants as status;

@@ -43,6 +43,7 @@ impl<H: Files + Wait + Clock + Drop> StepObserver for NodeObserver<H> {
         out: &Out,
     ) {
         if let Some(journal) = &mut self.journal {
+            // The journal has failed or goes on again, and the sessions are to say so.
             if journal.note(station, out) {
                 self.forwarder.wake();
             }

@@ -64,7 +64,7 @@ fn table(alloc: Global) -> Option<String> {
 
 impl SocketDrops {
     /// Returns the socket of a node. Its name in the table is its address and its port, in hexadecimal, the address
-    /// as the number that its bytes are in memory.
+    /// as the number that its bytes are in the memory of an x86 processor.
     pub(crate) fn of(alloc: Global, setup: &NodeSetup) -> Result<SocketDrops, AllocError> {
         let peers = addresses(alloc, &setup.tree)?;
         let place = usize::from(setup.station).saturating_sub(1);
@@ -73,6 +73,7 @@ impl SocketDrops {
                 let host = u32::from_le_bytes(own.ip().octets());
                 format!(in alloc; "{:08X}:{:04X}", host, own.port())?
             }
+            // (no line of the table has an empty name)
             _ => String::new(alloc),
         };
         Ok(SocketDrops {

@@ -7,7 +7,8 @@ use std::alloc::{AllocError, Global};
 use std::io::{ErrorKind, Read};
 use std::sync::Wait;
 
-/// The most lines that are read, and the most reads for a line: after them a reader counts as faulty.
+/// The most lines that are read, and the most reads for a line: after them a reader counts as faulty. A loop has to
+/// have an end for the prover, and no input is as long.
 const MOST: u64 = 1 << 32;
 
 /// How many bytes are read at once.
@@ -35,7 +36,7 @@ enum ReadOutcome {
     Fault,
 }
 
-/// Reads once, and has what came cut.
+/// Reads a block into a splitter.
 fn read_once<I: Read>(
     reader: &mut I,
     splitter: &mut LineSplitter,
@@ -61,6 +62,7 @@ fn next_line<I: Read>(reader: &mut I, splitter: &mut LineSplitter) -> Result<Inp
         match read_once(reader, splitter)? {
             ReadOutcome::More => {}
             ReadOutcome::End => {
+                // After a last line the input is read again, and ends again.
                 return Ok(match splitter.last_line()? {
                     Some(line) => Input::Line(line),
                     None => Input::Ended(InputEnd::End),
@@ -80,7 +82,7 @@ fn next_input<I: Read>(reader: &mut I, splitter: &mut LineSplitter) -> Input {
     }
 }
 
-/// Hands on what the input gives, and wakes the thread of the sessions. Whether that takes it.
+/// Hands on what the input gives, and wakes the thread of the sessions. Returns false if nobody takes it any more.
 pub(crate) fn hand_on<R: Wait>(
     rt: &R,
     input: Input,
