@@ -1,4 +1,4 @@
-//! The commands, over any files, input and outputs.
+//! Runs the command that a command line names, over any files, input and outputs.
 
 use crate::audit::audit_files;
 use crate::line::{CheckLine, CommandLine, line_of};
@@ -22,8 +22,10 @@ use std::sync::Wait;
 use std::thread::Threads;
 use std::time::Clock;
 
-/// Does what the words of the command line ask for, and returns the exit status. What is amiss is
-/// told in one line on `faults`; what the thread of a node tells that reads lines, on `aside`, which is the same.
+/// Does what the words of the command line ask for, and returns the exit status.
+///
+/// It tells on `faults`, which is standard error, what is amiss. `aside` is standard error too: the thread of a node
+/// that reads lines has a handle of its own.
 pub fn program<
     H: Files
         + Stores
@@ -66,6 +68,7 @@ pub fn program<
     }
 }
 
+/// Tells how answering datagrams ended, and returns the status of that.
 fn print_answered<F: Write>(answered: Answered, faults: &mut F) -> Status {
     match answered {
         Answered::Ended => Status::Done,
@@ -79,6 +82,8 @@ fn print_answered<F: Write>(answered: Answered, faults: &mut F) -> Status {
     }
 }
 
+/// Reads a tree file, and prints what it has, or which line is faulty. The status is a number here, because `check` and
+/// `lint` return theirs so.
 fn check_file<H: Files + AllocGlobal, W: Write + Drop, F: Write>(
     host: &H,
     words: &Words,
@@ -99,6 +104,7 @@ fn check_file<H: Files + AllocGlobal, W: Write + Drop, F: Write>(
     }
 }
 
+/// Prints the rows of a store, and returns the status of that.
 fn list_rows<H: Stores + AllocGlobal, W: Write + Drop, F: Write>(
     host: &H,
     path: &[u8],

@@ -10,15 +10,16 @@ use std::rt::Files;
 
 /// The code of a name or a number that is not well formed.
 const MALFORMED: u16 = 3;
-/// The most characters of a name, and of a line that is shown.
+/// How many bytes a name has at most.
 const LONGEST_NAME: usize = 16;
 
+/// How many characters of a line are shown at most.
 const LONGEST_LINE: usize = 200;
 
 /// Shows the faulty line of the tree file that the words of a command line name, and says in words what is wrong with
 /// it, if it has one.
 ///
-/// It reads the file a second time, and is silent if that can't be done, or if the file is one.
+/// It reads the file a second time, and writes nothing if that fails, or if the tree is sound by now.
 pub(crate) fn tell_tree_fault<H: Files + AllocGlobal, F: Write>(
     host: &H,
     words: &Words,
@@ -49,6 +50,7 @@ fn tree_of(line: CommandLine<'_>) -> Option<&str> {
     }
 }
 
+/// Writes the line of a fault, and what is wrong with it in words.
 fn tell_words<F: Write>(
     alloc: Global,
     bytes: &[u8],
@@ -116,6 +118,7 @@ fn words_of_fault(code: u16) -> &'static [u8] {
         9 => b"a device class in place of a unit class, or the other way round",
         10 => b"a line of more than 200 bytes",
         11 => b"more than 256 KiB",
+        // 12; there is no other
         _ => b"a station, an operator, a state, an action or a domain is missing",
     }
 }
