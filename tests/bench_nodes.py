@@ -9,8 +9,8 @@ of a page, where a save adds three to the log, each handed to the device, and as
 (tests/peer/floor.c). Both are run in turn, and each figure is the median of the rounds. Then the time from an order to
 its answer is measured through the pipes of a console, of a node at rest and of one that is sent datagrams all along;
 and through its sockets, at rest. A program in C measures what waking the station's thread costs, as a node does it and
-by an event beside its socket (tests/peer/waking.c). At last takes with their drops are made in memory, by nodes with a
-journal and without one in turn.
+by an event beside its socket (tests/peer/waking.c). At last takes with their drops are made in memory, by a node with
+a journal and by one without, in turn.
 """
 
 import os
@@ -37,9 +37,8 @@ FRAME = 4096 + 24
 ASKS = 3000
 # How often a thread is woken.
 WAKINGS = 20_000
-# How many nodes make takes and drops with a journal, and as many without one; and how many each. Of fewer the times of
-# two nodes of one kind differ by more than a journal costs.
-JOURNALED, JOURNALED_PAIRS = 25, 1500
+# How many couples of nodes make takes and drops, one with a journal; how many bursts each, and how many in a burst.
+COUPLES, BURSTS, BURST = 24, 60, 20
 ORDERS = 300
 
 
@@ -162,23 +161,42 @@ def wakings(waking):
           "%.1f us to a thread that waits for events too" % tuple(statistics.median(it) / 1e3 for it in zip(*rounds)))
 
 
-def journals(program):
-    """Takes with their drops a second over a store in memory, with a journal beside it and without one, in turn.
+def burst(node):
+    """How long a node takes for some takes with their drops, in seconds."""
+    begun = time.perf_counter()
+    node.say("\n".join(["order ANN take DCS", "order ANN drop DCS"] * BURST))
+    for _ in range(2 * BURST):
+        node.lines.get(timeout=60)
+    return time.perf_counter() - begun
 
-    Now the one begins a round and now the other. The ratio is the middle of the rounds' ratios.
+
+def journals(program):
+    """Takes with their drops a second over a store in memory, of a node with a journal and of one without.
+
+    Both run at once and work in turn, some milliseconds each, because a machine is now faster and now slower by more
+    than a journal costs. Of each couple the middle burst counts, and of the couples' ratios the middle one.
     """
-    counts = {"with": [], "without": []}
+    ratios, all_took = [], {"with": [], "without": []}
     with tempfile.TemporaryDirectory(dir="/dev/shm") as folder:
-        tree = nodes.write_tree(folder, nodes.free_ports(2))
-        lines = ["order ANN ask DCS"] + ["order ANN take DCS", "order ANN drop DCS"] * JOURNALED_PAIRS
-        ways = [("with", ["--journal", os.path.join(folder, "night")]), ("without", [])]
-        for place in range(JOURNALED):
-            for how, more in ways[::-1] if place % 2 else ways:
-                words = [tree, "A", os.path.join(folder, "%s%d" % (how, place)), *more]
-                counts[how].append(JOURNALED_PAIRS / lines_in(program, words, lines))
-    ratio = statistics.median(a / b for a, b in zip(counts["with"], counts["without"]))
-    print("node: %.0f takes with their drops a second in memory, %.0f with a journal; ratio %.3f"
-          % (statistics.median(counts["without"]), statistics.median(counts["with"]), ratio))
+        for place in range(COUPLES):
+            couple = {}
+            for how, more in (("with", ["--journal", os.path.join(folder, "night")]), ("without", [])):
+                room = os.path.join(folder, "%s%d" % (how, place))
+                os.mkdir(room)
+                words = [nodes.write_tree(room, nodes.free_ports(2)), "A", os.path.join(room, "store"), "--endless"]
+                couple[how] = nodes.Node(program, words + more)
+                couple[how].ask("order ANN ask DCS", 60)
+            took = {how: [] for how in couple}
+            for turn in range(BURSTS):
+                for how in sorted(couple, reverse=turn % 2):
+                    took[how].append(burst(couple[how]))
+            for how, node in couple.items():
+                node.kill()
+                all_took[how] += took[how]
+            ratios.append(statistics.median(took["without"]) / statistics.median(took["with"]))
+    rates = {how: BURST / statistics.median(took) for how, took in all_took.items()}
+    print("node: %.0f takes with their drops a second in memory, %.0f with a journal; ratio %.3f (%.3f to %.3f)"
+          % (rates["without"], rates["with"], statistics.median(ratios), min(ratios), max(ratios)))
 
 
 def main():
