@@ -82,14 +82,24 @@ fn line_at(text: &str, number: u64) -> Option<&str> {
     text.lines().nth(before)
 }
 
-/// Returns the first word that is too long to be a name, if the line has a name that is not well formed.
+/// Returns the first word that would be a name if it were not too long, if the line has a name or a number that is not
+/// well formed.
 fn long_word(line: &str, code: u16) -> Option<&str> {
     for word in line.split_whitespace() {
-        if code == MALFORMED && word.len() > LONGEST_NAME {
+        if code == MALFORMED && is_long_name(word) {
             return Some(word);
         }
     }
     None
+}
+
+/// Returns true if a word is a name but for its length: letters, digits and `_`, and not digits alone.
+fn is_long_name(word: &str) -> bool {
+    word.len() > LONGEST_NAME
+        && word
+            .bytes()
+            .all(|byte| byte.is_ascii_alphanumeric() || byte == b'_')
+        && !word.bytes().all(|byte| byte.is_ascii_digit())
 }
 
 /// Writes a line as far as it may be one, and a question mark for what a terminal would not print but do.
