@@ -88,9 +88,9 @@ impl Connection {
         self.listener == listener && !self.should_close
     }
 
-    /// Returns its session.
-    pub(crate) fn session(&mut self) -> &mut Session {
-        &mut self.session
+    /// Returns true if its session follows states or actions.
+    pub(crate) fn follows(&self) -> bool {
+        self.session.has_subscription()
     }
 
     /// Returns its number.

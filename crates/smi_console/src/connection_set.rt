@@ -191,11 +191,20 @@ impl ConnectionSet {
         }
     }
 
+    /// Returns true if a session follows states or actions.
+    pub(crate) fn has_followers(&self) -> bool {
+        self.stdin.has_subscription()
+            || self
+                .connections
+                .iter()
+                .any(|connection| connection.follows())
+    }
+
     /// Marks those that follow states or actions as lost: not all can be told any more.
     pub(crate) fn lose_followers(&mut self) {
         self.is_stdin_lost = self.is_stdin_lost || self.stdin.has_subscription();
         for connection in self.connections.iter_mut() {
-            if connection.session().has_subscription() {
+            if connection.follows() {
                 connection.close();
             }
         }

@@ -1,6 +1,7 @@
 //! The loop of the thread of the sessions: it hears all who talk to the node, and tells them what they asked for.
 
 use crate::connection_set::ConnectionSet;
+use crate::console_waker::ConsoleWaker;
 use crate::event_queue::StationNews;
 use crate::faults::journal_fault;
 use crate::socket_drops::SocketDrops;
@@ -14,8 +15,9 @@ use smi_journal::Noted;
 use smi_schedule::Unwritten;
 use smi_session::{MOST_PENDING, SessionService, StateReader};
 use smi_tree::Tree;
+use std::alloc::Global;
 use std::io::Write;
-use std::sync::Wait;
+use std::sync::{Arc, Wait};
 use std::thread::sleep;
 use std::time::{Clock, Duration, Instant};
 
@@ -31,6 +33,8 @@ pub(crate) struct ConsoleLoop<G: StateReader + Drop> {
     pub(crate) sessions: Box<SessionService<G>>,
     pub(crate) connections: Box<ConnectionSet>,
     pub(crate) station_waker: StationWaker,
+    /// The waker of this thread.
+    pub(crate) waker: Arc<ConsoleWaker, Global>,
     /// Where what the standard input is told goes.
     pub(crate) stdout: StdoutSender,
     /// What is typed at the standard input, and what the station tells.
@@ -92,6 +96,11 @@ impl<G: StateReader + Drop> ConsoleLoop<G> {
                 Err(_) => return,
             }
         }
+    }
+
+    /// Notes whether anybody follows. Returns true if news may be there for which this thread was not woken.
+    fn note_followers(&self) -> bool {
+        self.waker.set_followers(self.connections.has_followers())
     }
 
     /// Notes what the system has dropped, if it is time to look.
@@ -219,7 +228,8 @@ fn poll_stdin<G: StateReader + Drop, R: Wait, F: Write>(
     false
 }
 
-/// Everybody is heard and told once, as far as nothing waits. Whether the standard input, or the station, has more.
+/// Hears and tells everybody once, as far as nothing waits. Returns true if the standard input or the station has more,
+/// or may have.
 fn poll_once<G: StateReader + Drop, R: Wait + Clock, F: Write>(
     rt: &R,
     tree: &Tree,
@@ -243,7 +253,8 @@ fn poll_once<G: StateReader + Drop, R: Wait + Clock, F: Write>(
     if console_loop.sessions.has_given() {
         console_loop.station_waker.wake();
     }
-    has_more_lines || has_more_news
+    let has_unseen_news = console_loop.note_followers();
+    has_more_lines || has_more_news || has_unseen_news
 }
 
 /// Hears and tells, round after round, until the standard input has ended where nobody else can talk to the node.

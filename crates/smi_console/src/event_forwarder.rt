@@ -17,22 +17,23 @@ use std::time::Clock;
 
 /// Forwards the states that the objects of its station pass through, those of other stations' objects that it was told,
 /// the modes of children, and the actions that it does. It wakes the thread of the sessions at the end of a turn that
-/// brought an answer or news.
+/// brought an answer, or news that somebody follows.
 ///
 /// A state for which there is no room is told at a later step, as the newest of its object by then. So is the mode of a
-/// child, at a later step that saved a row.
+/// child.
 #[derive(Drop)]
 pub(crate) struct EventForwarder<H: Files + Drop> {
     /// The tree of the station.
     tree: Arc<Tree, Global>,
-    /// The way to the thread of the sessions.
+    /// The queue to the thread of the sessions.
     queue: EventQueue<H>,
     /// The states that are not told yet, by object, and whether there are any.
     coalesced: Vec<Option<Shown>>,
     has_coalesced: bool,
-    /// The children of the domains of the station, and their modes as they were told last.
+    /// The children of the domains of the station, their modes as they were told last, and whether one is to be told.
     children: Vec<u16>,
     modes: Vec<Option<ChildMode>>,
+    has_modes: bool,
 }
 
 /// Returns how a domain of a station has its child: None if it is no child of one.
@@ -91,6 +92,7 @@ impl<H: Files + Wait + Clock + Drop> EventForwarder<H> {
             has_coalesced: true,
             children,
             modes,
+            has_modes: false,
         };
         forwarder.send_coalesced();
         forwarder.send_modes(station);
@@ -141,6 +143,7 @@ impl<H: Files + Wait + Clock + Drop> EventForwarder<H> {
 
     /// Tells the modes of children that are not as they were told last, as far as there is room.
     fn send_modes<T: StationState>(&mut self, station: &T) {
+        self.has_modes = false;
         for (child, told) in self.children.iter().zip(self.modes.iter_mut()) {
             let Some(mode) = mode_of(&self.tree, station, *child) else {
                 continue;
@@ -149,8 +152,13 @@ impl<H: Files + Wait + Clock + Drop> EventForwarder<H> {
                 child: *child,
                 mode,
             };
-            if !is_told(*told, mode) && self.queue.tell(StationNews::Mode(state)) {
+            if is_told(*told, mode) {
+                continue;
+            }
+            if self.queue.tell(StationNews::Mode(state)) {
                 *told = Some(mode);
+            } else {
+                self.has_modes = true;
             }
         }
     }
@@ -169,7 +177,7 @@ impl<H: Files + Wait + Clock + Drop> EventForwarder<H> {
         for device in done.devices {
             let object = self.tree.domain_count().saturating_add(*device);
             if let Some(shown) = station.current(object) {
-                self.queue.tell_act(ActionDone {
+                self.queue.tell_action(ActionDone {
                     action: done.action,
                     shown,
                     domain: done.domain,
@@ -205,7 +213,7 @@ impl<H: Files + Wait + Clock + Drop> EventForwarder<H> {
             self.send_or_coalesce(*shown);
         }
         // A mode changes only with a row that is saved.
-        if matches!(made, Ok(Heard::Done)) {
+        if self.has_modes || matches!(made, Ok(Heard::Done)) {
             self.send_modes(station);
         }
         self.tell_done(station, event, made);

@@ -10,6 +10,10 @@ use std::sync::{Arc, Wait};
 /// How much news may wait here, beside what is in the channel.
 const MOST_WAITING: usize = 4_096;
 
+/// After how much news the thread of the sessions is woken though nobody follows: it takes as much in one round, so
+/// whoever asks is answered by all of it.
+const MOST_UNSEEN: usize = 256;
+
 /// What the thread of the sessions is told of the station.
 #[derive(Clone, Copy)]
 pub(crate) enum StationNews {
@@ -24,11 +28,12 @@ pub(crate) enum StationNews {
 struct EventQueueParts<H: Drop> {
     rt: H,
     waker: Arc<ConsoleWaker, Global>,
-    /// The channel.
-    way: Sender<StationNews>,
+    channel: Sender<StationNews>,
     waiting: VecDeque<StationNews>,
     /// How many actions were dropped, because the queue was full.
     dropped: u32,
+    /// How much news the channel was given since the thread of the sessions was woken last.
+    unseen: usize,
     /// True if the thread of the sessions is to be woken once the turn is over.
     is_due: bool,
 }
@@ -47,14 +52,15 @@ impl<H: Wait + Drop> EventQueue<H> {
         alloc: Global,
         rt: H,
         waker: Arc<ConsoleWaker, Global>,
-        way: Sender<StationNews>,
+        channel: Sender<StationNews>,
     ) -> Result<EventQueue<H>, AllocError> {
         let parts = EventQueueParts {
             rt,
             waker,
-            way,
+            channel,
             waiting: VecDeque::new(alloc),
             dropped: 0,
+            unseen: 0,
             is_due: false,
         };
         let parts = boxed(alloc, parts)?;
@@ -71,6 +77,7 @@ impl<H: Wait + Drop> EventQueue<H> {
     pub(crate) fn end_turn(&mut self) {
         if self.parts.is_due {
             self.parts.is_due = false;
+            self.parts.unseen = 0;
             self.parts.waker.wake();
         }
     }
@@ -82,12 +89,15 @@ impl<H: Wait + Drop> EventQueue<H> {
             let Some(news) = parts.waiting.front().copied() else {
                 return;
             };
-            if parts.way.try_send(&parts.rt, news).is_err() {
+            if parts.channel.try_send(&parts.rt, news).is_err() {
                 // It is full, or nobody receives any more.
                 return;
             }
             let _ = parts.waiting.pop_front();
-            parts.is_due = true;
+            parts.unseen = parts.unseen.saturating_add(1);
+            if parts.unseen >= MOST_UNSEEN || parts.waker.has_followers() {
+                parts.is_due = true;
+            }
         }
     }
 
@@ -111,8 +121,10 @@ impl<H: Wait + Drop> EventQueue<H> {
     }
 
     /// Tells of an action, or counts it.
-    pub(crate) fn tell_act(&mut self, act: ActionDone) {
-        if self.parts.dropped > 0 || !self.tell(StationNews::Event(StationEvent::ActionDone(act))) {
+    pub(crate) fn tell_action(&mut self, done: ActionDone) {
+        if self.parts.dropped > 0
+            || !self.tell(StationNews::Event(StationEvent::ActionDone(done)))
+        {
             self.parts.dropped = self.parts.dropped.saturating_add(1);
         }
     }

@@ -9,6 +9,8 @@ use smi_protocol::OpenFault;
 use std::io::Write;
 
 /// Tells why a station was not opened on its store, or its rows not brought into their newest schema.
+///
+/// No clause names `faults`: what is written there is words, which tests see.
 pub fn opening_fault<F: Write>(fault: OpenFault, faults: &mut F) -> Status
     ensures { result ≡ status_of fault }
 {
@@ -29,6 +31,8 @@ pub fn opening_fault<F: Write>(fault: OpenFault, faults: &mut F) -> Status
 }
 
 /// Tells that the node has no socket, or that its socket failed too often.
+///
+/// No clause names `faults`: what is written there is words, which tests see.
 pub fn link_fault<F: Write>(faults: &mut F) -> Status
     ensures { result ≡ status.Fault }
 {
@@ -50,6 +54,8 @@ pub(crate) fn journal_fault<F: Write>(faults: &mut F) -> Status
 }
 
 /// Tells that the station has stopped.
+///
+/// No clause names `faults`: what is written there is words, which tests see.
 pub fn stopped<F: Write>(faults: &mut F) -> Status
     ensures { result ≡ status.Fault }
 {
@@ -57,6 +63,8 @@ pub fn stopped<F: Write>(faults: &mut F) -> Status
 }
 
 /// Tells a fault in its line.
+///
+/// No clause names `what` and `faults`: a line of words is written, which tests see.
 pub fn print_fault<F: Write>(what: &str, faults: &mut F) -> Status
     ensures { result ≡ status.Fault }
 {

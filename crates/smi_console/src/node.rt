@@ -144,7 +144,8 @@ where
 ///
 /// Nothing but the opening and the steps of the station changes the store, and copies of its log, which keep the rows.
 /// That it serves over its own socket and its own seats no clause says, and none what the threads of the console do:
-/// tests/full_test.py, tests/nodes_test.py and tests/consoles_test.py see that.
+/// tests/full_test.py, tests/nodes_test.py and tests/consoles_test.py see that. Nor does one name `rt`, which gives
+/// threads and clocks, or what `console` has.
 pub fn run<S, H, I, O, E, F>(
     rt: &H,
     setup: &NodeSetup,

@@ -22,6 +22,8 @@ fn socket_address(address: Address) -> SocketAddr
 }
 
 /// Returns the addresses of all stations, by number.
+///
+/// No clause names `alloc`, from which memory comes.
 pub fn addresses(alloc: Global, tree: &Tree) -> Result<Vec<SocketAddr>, AllocError>
     ensures each { IfOk result (λ peers. map address_in peers.items ≡ map Some tree.now.addresses) }
     ensures count { IfOk result (λ peers. length peers.items ≡ station_count tree.now) }

@@ -155,6 +155,7 @@ fn build_node<K: Linking, G: StateReader + Drop, H: Files + Net + AllocGlobal>(
 ) -> Result<NodeParts<K::Link, G>, StartError> {
     let station_parts = build_station(rt.alloc(), setup, operators, glance, linking)?;
     let (connections, waker) = open_connections(rt, setup)?;
+    let own_waker = Arc::try_clone(&waker)?;
     let (journal_ways, journal) = journal_ways(rt.alloc(), setup.journal.is_some())?;
     let StationParts {
         node_io,
@@ -165,6 +166,7 @@ fn build_node<K: Linking, G: StateReader + Drop, H: Files + Net + AllocGlobal>(
         sessions,
         connections,
         station_waker,
+        waker: own_waker,
         journal,
     };
     Ok(NodeParts {

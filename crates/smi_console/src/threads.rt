@@ -104,6 +104,7 @@ pub(crate) struct ConsoleParts<G: StateReader + Drop> {
     pub(crate) sessions: Box<SessionService<G>>,
     pub(crate) connections: Box<ConnectionSet>,
     pub(crate) station_waker: StationWaker,
+    pub(crate) waker: Arc<ConsoleWaker, Global>,
     pub(crate) journal: JournalWays,
 }
 
@@ -129,6 +130,7 @@ fn console_loop_of<G: StateReader + Drop>(
         sessions,
         connections,
         station_waker,
+        waker,
         journal,
     } = parts;
     let mut connections = connections;
@@ -137,6 +139,7 @@ fn console_loop_of<G: StateReader + Drop>(
         sessions,
         connections,
         station_waker,
+        waker,
         stdout,
         lines,
         news,
