@@ -22,7 +22,8 @@ enum CheckDetail {
 /// fault and the fault's number on `faults`, and returns the exit status.
 ///
 /// It is 0 if the file is one and the line is written, 1 if the file is refused, 3 if the line could not be written,
-/// and 4 if memory ran out. (docs/FORMATS.md, "The tree file".)
+/// and 4 if memory ran out. (docs/FORMATS.md, "The tree file".) No clause names `alloc`, from which memory comes, and
+/// `writer` and `faults`, to which words are written: tests see these.
 pub fn check<W: Write, F: Write>(alloc: Global, bytes: &[u8], writer: &mut W, faults: &mut F) -> u8
     ensures accepted { result ≡ 0 → IsOk (tree_of bytes.now) }
     ensures refused { result ≡ 1 → IsErr (tree_of bytes.now) }
@@ -34,6 +35,9 @@ pub fn check<W: Write, F: Write>(alloc: Global, bytes: &[u8], writer: &mut W, fa
 
 /// Tells the same as [`check`], and of a lawful file also on `faults` what in it is surely not meant (docs/FORMATS.md,
 /// "Doubts"), which does not change the status.
+///
+/// No clause names `alloc`, from which memory comes, and `writer` and `faults`, to which words are written: tests see
+/// these.
 pub fn lint<W: Write, F: Write>(alloc: Global, bytes: &[u8], writer: &mut W, faults: &mut F) -> u8
     ensures accepted { result ≡ 0 → IsOk (tree_of bytes.now) }
     ensures refused { result ≡ 1 → IsErr (tree_of bytes.now) }

@@ -30,6 +30,8 @@ impl Status {
 }
 
 /// Tells that the command line is none of the forms.
+///
+/// No clause names `faults`: what is written there is words, which tests see.
 pub fn wrong_line<F: Write>(faults: &mut F) -> Status
     ensures { result ≡ Status.WrongLine }
 {
@@ -38,6 +40,8 @@ pub fn wrong_line<F: Write>(faults: &mut F) -> Status
 }
 
 /// Tells that an input could not be read.
+///
+/// No clause names `faults`: what is written there is words, which tests see.
 pub fn read_fault<F: Write>(faults: &mut F) -> Status
     ensures { result ≡ Status.Fault }
 {
@@ -46,6 +50,8 @@ pub fn read_fault<F: Write>(faults: &mut F) -> Status
 }
 
 /// Tells that an output could not be written.
+///
+/// No clause names `faults`: what is written there is words, which tests see.
 pub fn write_fault<F: Write>(faults: &mut F) -> Status
     ensures { result ≡ Status.Fault }
 {
@@ -54,6 +60,8 @@ pub fn write_fault<F: Write>(faults: &mut F) -> Status
 }
 
 /// Tells that a store could not be opened or read.
+///
+/// No clause names `faults`: what is written there is words, which tests see.
 pub fn store_fault<F: Write>(faults: &mut F) -> Status
     ensures { result ≡ Status.Fault }
 {
@@ -62,6 +70,8 @@ pub fn store_fault<F: Write>(faults: &mut F) -> Status
 }
 
 /// Tells that there was no memory.
+///
+/// No clause names `faults`: what is written there is words, which tests see.
 pub fn no_memory<F: Write>(faults: &mut F) -> Status
     ensures { result ≡ Status.NoMemory }
 {

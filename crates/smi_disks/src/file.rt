@@ -9,6 +9,8 @@ use std::rt::Files;
 
 /// Opens the file of a path. One that is no text is opened by its bytes, and then again by the name that the system has
 /// for what is open.
+///
+/// It has no clause: what is at a path, the system alone says. tests/paths_test.py has paths of all kinds.
 pub fn open<H: Files + AllocGlobal>(host: &H, path: &[u8]) -> io::Result<H::File> {
     if let Ok(text) = str::from_utf8(path) {
         return fs::open(host, text);
@@ -22,6 +24,8 @@ pub fn open<H: Files + AllocGlobal>(host: &H, path: &[u8]) -> io::Result<H::File
 }
 
 /// Returns the bytes of a file, or none if there is no file. What is no regular file is not opened.
+///
+/// It has no clause: what is at a path, the system alone says. tests/paths_test.py has paths of all kinds.
 pub fn bytes_of<H: Files + AllocGlobal>(host: &H, path: &[u8]) -> io::Result<Option<Vec<u8>>> {
     if let Ok(text) = str::from_utf8(path) {
         match fs::metadata(host, text) {
@@ -42,6 +46,8 @@ pub fn bytes_of<H: Files + AllocGlobal>(host: &H, path: &[u8]) -> io::Result<Opt
 }
 
 /// Returns the path with no link in it, if it is text.
+///
+/// It has no clause: what is at a path, the system alone says. tests/paths_test.py has paths of all kinds.
 pub fn resolved<H: Files + AllocGlobal>(host: &H, path: &[u8]) -> io::Result<Vec<u8>> {
     match str::from_utf8(path) {
         Ok(text) => {
@@ -53,6 +59,8 @@ pub fn resolved<H: Files + AllocGlobal>(host: &H, path: &[u8]) -> io::Result<Vec
 }
 
 /// Returns the path with more after it.
+///
+/// No clause names `alloc`, from which memory comes.
 pub fn beside(alloc: Global, path: &[u8], more: &[u8]) -> Result<Vec<u8>, AllocError>
     ensures { IfOk result (λ longer. longer.items ≡ path.now ++ more.now) }
 {

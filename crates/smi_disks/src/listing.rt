@@ -26,6 +26,9 @@ const ROOM: usize = 64 * 1024;
 const CALLS: u32 = 1_024;
 
 /// Writes the rows of a store, a line each.
+///
+/// It has no clause: what is at a path, the system alone says. What is written of a copy has one, and tests/stores.py
+/// lists stores.
 pub fn list<H: rt::Files + Clock + AllocGlobal, W: Write>(
     host: &H,
     path: &[u8],

@@ -71,7 +71,7 @@ fn speak_line(text: &mut Vec<u8>, line: &[u8]) -> Result<(), AllocError>
 /// Returns what a tree file says: the words of its lines, each followed by a blank, and a line feed after each line.
 /// Lines without words and comments say nothing, nor does the address of a station.
 ///
-/// Its error is that memory was refused.
+/// Its error is that memory was refused. No clause names `alloc`, from which memory comes.
 pub fn speak(alloc: Global, file: &[u8]) -> Result<Vec<u8>, AllocError>
     ensures { IfOk result (λ text. text.items ≡ spoken file.now) }
 {

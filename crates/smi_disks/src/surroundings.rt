@@ -97,6 +97,9 @@ impl<H: Files + AllocGlobal + Drop> StoreFiles<H> {
     ghost use Rattle.smi_disks.specs.Surroundings.{IsThere};
 
     /// Returns the files that are at these paths now: that of a store, and that of its log.
+    ///
+    /// No clause names `host`, `path` and `log_path`: what is at a path, the system alone says. tests/marks_test.py
+    /// moves files away.
     pub fn of(host: H, path: String, log_path: String, tree: TreeMark) -> io::Result<StoreFiles<H>>
         ensures { IfOk result (λ files. files.tree ≡ tree) }
     {

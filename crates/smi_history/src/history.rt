@@ -130,6 +130,8 @@ impl History {
     ghost use Rattle.smi_history.specs.History as spec;
 
     /// Makes one that has seen nothing.
+    ///
+    /// No clause names `alloc`, from which memory comes.
     pub fn new(alloc: Global) -> History
         ensures { result ≡ spec.empty }
     {

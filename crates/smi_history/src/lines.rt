@@ -111,7 +111,7 @@ impl History {
     /// Reads the lines of a file, the oldest entry first; none of them counts as saved. Lines that are none of entries
     /// are passed over, and so is a last one that has no end, as a kill leaves it.
     ///
-    /// It fails only if memory ran out, which tests alone see.
+    /// It fails only if memory ran out, which tests alone see. No clause names `alloc`, from which memory comes.
     pub fn read(alloc: Global, bytes: &[u8]) -> Result<History, AllocError>
         ensures { IfOk result (λ history. history ≡ spec.history_in bytes.now) }
     {

@@ -193,6 +193,8 @@ impl Connected {
 
 impl NodeConsole {
     /// Returns a console without a connection.
+    ///
+    /// It has no clause: no clause sees what comes over a socket. tests/orders_test.py connects to `place`.
     pub fn new(alloc: Global, place: ConsoleAddress) -> NodeConsole {
         NodeConsole {
             alloc,
@@ -220,6 +222,9 @@ impl NodeConsole {
 
     /// Makes one turn: makes a connection if there is none, hears what was said over it, and sends what is to be
     /// sent, as far as nothing waits. With a connection that breaks, what was given on it is lost.
+    ///
+    /// It has no clause: no clause sees what goes over a socket, and what `relay` makes of it, its own clauses say.
+    /// tests/orders_test.py gives orders so.
     pub fn turn<R: Net>(&mut self, rt: &R, relay: &mut OrderRelay, now: u64) {
         let health = match &mut self.line {
             Some(line) => line.turn(relay, now),

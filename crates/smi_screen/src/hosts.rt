@@ -10,6 +10,8 @@ fn bytes_of(alloc: Global, text: String) -> Result<Vec<u8>, AllocError> {
 /// Returns the values of `Host` that a screen at this address answers to: the address itself; this machine's own
 /// name, if the address is its own; and a name, if one is given. Each has the port. If a proxy serves the page under an
 /// origin, its host is another, as the origin has it.
+///
+/// It has no clause: the toolchain has none for an address as text. tests/screen_test.py asks for other hosts.
 pub fn hosts_of(
     alloc: Global,
     http: SocketAddr,

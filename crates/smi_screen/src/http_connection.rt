@@ -37,6 +37,8 @@ impl<T: Read + Write> HttpConnection<T> {
     ghost use Rattle.smi_screen.specs.HttpConnection.{later_by, new_guest};
 
     /// Returns a connection that comes now.
+    ///
+    /// No clause names `stream` and `protocol`: a clause sees of a connection only how long it may stay.
     pub fn new(stream: T, protocol: Connection, now: u64) -> HttpConnection<T>
         ensures { result ≡ new_guest now }
     {
@@ -89,6 +91,9 @@ impl<T: Read + Write> HttpConnection<T> {
 
     /// Makes one turn: at most one read, answers to what has been read, and at most one write. One whose time is up is
     /// to be closed.
+    ///
+    /// No clause names `service`: a clause sees of a connection only how long it may stay. tests/screen_test.py sees
+    /// the answers.
     pub fn turn<S: Service>(&mut self, service: &mut S, now: u64)
         ensures due { self.old.until ≤ now → self.new.should_close ≡ true }
         ensures time { (self.new.until ≡ self.old.until) ⊎ (self.new.until ≡ later_by now 15000) }

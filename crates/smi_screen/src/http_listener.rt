@@ -53,6 +53,9 @@ impl HttpListener {
 
     /// Opens a listener at an address, without a connection. Headers of requests are kept under these keys, so that
     /// nobody can choose names that are expensive to look up.
+    ///
+    /// No clause names `rt`, `alloc`, `keys` and `address`: no clause sees a socket. tests/screen_test.py connects to
+    /// it.
     pub fn open<R: Net<Listener = TcpListener, Stream = TcpStream>>(
         rt: &R,
         alloc: Global,
@@ -133,6 +136,8 @@ impl HttpListener {
 
     /// Makes one turn: accepts connections that wait, gives each connection a turn of its own, and closes those
     /// that are done.
+    ///
+    /// It has no clause: no clause sees a socket. tests/hostile_http_test.py and tests/guests.py connect to it.
     pub fn turn<S: Service>(&mut self, service: &mut S, now: u64) {
         self.accept_waiting(now);
         for connection in self.connections.iter_mut() {

@@ -393,7 +393,8 @@ impl Observer {
     /// each if it is time. Returns what came at last.
     ///
     /// It asks the link at least once and waits for it alone, and ends early only if the station has stopped. Nothing
-    /// in the picture goes back.
+    /// in the picture goes back. No clause names `schedule`: it has a clock, and its own clauses say what is due at a
+    /// time.
     pub fn poll<S: Stable, L: DatagramLink>(
         &mut self,
         station: &mut Station<'_, S>,

@@ -261,7 +261,8 @@ fn open_and_look<
 ///
 /// Nothing but the opening of the station and what it does as an observer changes the store: it looks in the name of
 /// its first operator, and orders nothing but watches and questions. That it looks over its own socket, and what its
-/// web server answers over its own, no clause says: tests/screen_test.py sees that.
+/// web server answers over its own, no clause says: tests/screen_test.py sees that. Nor does one name `rt`, which gives
+/// sockets and clocks, or `keys`.
 pub fn run<
     S: Stable,
     R: Net<Listener = TcpListener, Stream = TcpStream> + Wait + Clock + Files + AllocGlobal,

@@ -31,6 +31,8 @@ impl Model for LineSplitter {
 
 impl LineSplitter {
     /// Makes a splitter to which nothing has come.
+    ///
+    /// No clause names `alloc`, from which memory comes.
     pub fn new(alloc: Global) -> LineSplitter
         ensures line { result.line ≡ [] }
         ensures unread { result.unread ≡ [] }

@@ -73,7 +73,7 @@ impl SeatQueue {
 
     /// Makes the queue of an operator's seat, or of nobody's, at which nothing is pending.
     ///
-    /// Its error is that memory was refused.
+    /// Its error is that memory was refused. No clause names `alloc`, from which memory comes.
     pub fn new(
         alloc: Global,
         operator: Option<u16>,

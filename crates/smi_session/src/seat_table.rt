@@ -183,7 +183,7 @@ impl SeatTable {
     /// and the last one is for reports. Of each seven seats from the first four are for orders, one is for watches, and
     /// two are for questions.
     ///
-    /// Its error is that memory was refused.
+    /// Its error is that memory was refused. No clause names `alloc`, from which memory comes.
     pub fn open(
         alloc: Global,
         operators: &[u16],

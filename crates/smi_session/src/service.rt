@@ -104,7 +104,8 @@ impl<G: StateReader + Drop> SessionService<G> {
 
     /// Opens the service of a node over these seats, with no events.
     ///
-    /// Its error is that memory was refused.
+    /// Its error is that memory was refused. No clause names `alloc`, from which memory comes, nor `counts`, which
+    /// others raise while they are read: a clause is of one moment. tests/consoles_test.py reads them.
     pub fn open(
         alloc: Global,
         seats: SeatTable,
@@ -129,6 +130,8 @@ impl<G: StateReader + Drop> SessionService<G> {
     }
 
     /// Sets how many datagrams to the node the system has dropped. None if it does not tell.
+    ///
+    /// No clause names `drops`: it is shown by `counts` alone, a text of numbers. tests/consoles_test.py reads it.
     pub fn set_drops(&mut self, drops: Option<u64>)
         ensures { self.new ≡ self.old }
     {

@@ -121,7 +121,7 @@ impl Session {
 
     /// Makes a session of this number, which no other has, that has typed nothing.
     ///
-    /// Its error is that memory was refused.
+    /// Its error is that memory was refused. No clause names `alloc`, from which memory comes.
     pub fn new(alloc: Global, number: u64, style: ReplyStyle) -> Result<Session, AllocError>
         ensures { IfOk result (λ s. s ≡ new_session number style) }
     {

@@ -153,6 +153,8 @@ impl Acknowledgements {
     ghost use Rattle.smi_web.specs.Acknowledgements as spec;
 
     /// Makes a list of none.
+    ///
+    /// No clause names `alloc`, from which memory comes.
     pub fn new(alloc: Global) -> Acknowledgements
         ensures { result ≡ [] }
     {

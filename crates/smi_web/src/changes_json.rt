@@ -112,7 +112,7 @@ impl<'a> Listing for ChangedDevices<'a> {
 /// the time at which it was looked at, and from which time on. A domain or a device has 0 in its place if nothing of it
 /// is new, and a domain the time at which it was last heard of if no more than that is.
 ///
-/// It fails only if memory ran out, which tests alone see.
+/// It fails only if memory ran out, which tests alone see. No clause names `alloc`, from which memory comes.
 pub fn write_changes(
     alloc: Global,
     tree: &Tree,

@@ -367,7 +367,7 @@ fn put_metrics(
 
 /// Writes all metrics of a picture, with the figures of its screen.
 ///
-/// It fails only if memory ran out, which tests alone see.
+/// It fails only if memory ran out, which tests alone see. No clause names `alloc`, from which memory comes.
 pub fn write_metrics(
     alloc: Global,
     tree: &Tree,

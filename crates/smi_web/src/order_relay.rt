@@ -113,6 +113,8 @@ impl OrderRelay {
     ghost use Rattle.smi_web.specs.OrderRelay as spec;
 
     /// Makes a relay without a connection, to which nothing was given.
+    ///
+    /// No clause names `alloc`, from which memory comes.
     pub fn new(alloc: Global) -> OrderRelay
         ensures { result ≡ spec.nothing }
     {

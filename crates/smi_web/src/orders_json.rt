@@ -277,7 +277,7 @@ fn put_known(
 /// Writes the orders that were given, the oldest first, the modes that are known, and the alarms that were
 /// acknowledged, in one line of JSON.
 ///
-/// It fails only if memory ran out, which tests alone see.
+/// It fails only if memory ran out, which tests alone see. No clause names `alloc`, from which memory comes.
 pub fn write_orders(
     alloc: Global,
     relay: &OrderRelay,

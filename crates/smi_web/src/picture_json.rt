@@ -185,7 +185,7 @@ impl<'a> Listing for SeenDevices<'a> {
 
 /// Writes the picture in one line of JSON, with its number and the time at which it was looked at.
 ///
-/// It fails only if memory ran out, which tests alone see.
+/// It fails only if memory ran out, which tests alone see. No clause names `alloc`, from which memory comes.
 pub fn write_picture(
     alloc: Global,
     tree: &Tree,

@@ -199,7 +199,7 @@ fn refuse_change(response: &mut Response) -> Result<(), AllocError>
 impl WebService {
     /// Renews the text of what became of the orders that were given, and of the alarms that were acknowledged.
     ///
-    /// Its error is that memory was refused: nothing changes then.
+    /// Its error is that memory was refused: nothing changes then. No clause names `alloc`, from which memory comes.
     pub fn renew_orders(&mut self, alloc: Global) -> Result<(), AllocError>
         ensures ok { OnOk result (self.new ≡ orders_told self.old) }
         ensures err { OnErr result (self.new ≡ self.old) }
@@ -214,7 +214,8 @@ impl WebService {
 
     /// Notes in the history what is new in a picture, and which orders and acknowledgements are.
     ///
-    /// It fails only if memory ran out, which tests alone see. Some of what was new may be noted nowhere then.
+    /// It fails only if memory ran out, which tests alone see. Some of what was new may be noted nowhere then. No
+    /// clause names `alloc`, from which memory comes.
     pub fn look(
         &mut self,
         alloc: Global,

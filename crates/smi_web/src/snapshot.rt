@@ -49,7 +49,7 @@ impl Snapshot {
 
     /// Returns the first snapshot, of a page, a tree and a picture, before anything was counted.
     ///
-    /// It fails only if memory ran out, which tests alone see.
+    /// It fails only if memory ran out, which tests alone see. No clause names `alloc`, from which memory comes.
     pub fn first(
         alloc: Global,
         page: Bytes,
@@ -82,7 +82,8 @@ impl Snapshot {
     /// Makes the snapshot of a picture, with the figures of its screen, in place of the one before. The page and the
     /// tree stay.
     ///
-    /// It fails only if memory ran out, which tests alone see, and changes nothing then.
+    /// It fails only if memory ran out, which tests alone see, and changes nothing then. No clause names `alloc`, from
+    /// which memory comes.
     pub fn renew(
         &mut self,
         alloc: Global,
@@ -108,7 +109,8 @@ impl Snapshot {
     /// Writes what became of the orders of this relay, and which alarms were acknowledged, looked at at this time, in
     /// place of what was told before. All else stays.
     ///
-    /// It fails only if memory ran out, which tests alone see, and changes nothing then.
+    /// It fails only if memory ran out, which tests alone see, and changes nothing then. No clause names `alloc`, from
+    /// which memory comes.
     pub fn renew_orders(
         &mut self,
         alloc: Global,

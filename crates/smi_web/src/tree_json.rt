@@ -247,7 +247,7 @@ fn put_all_kinds(text: &mut Vec<u8>, tree: &Tree) -> Result<(), AllocError>
 
 /// Writes the tree in one line of JSON.
 ///
-/// It fails only if memory ran out, which tests alone see.
+/// It fails only if memory ran out, which tests alone see. No clause names `alloc`, from which memory comes.
 pub fn write_tree(alloc: Global, tree: &Tree) -> Result<Vec<u8>, AllocError>
     ensures { IfOk result (λ text. text.items ≡ tree_text tree.now) }
 {
