@@ -4,7 +4,7 @@
 use crate::event_queue::{EventQueue, StationNews};
 use smi_grant::{Holder, Shown};
 use smi_journal::StationState;
-use smi_protocol::{Event, Heard, StepFault};
+use smi_protocol::{Event, Heard, Order, StepFault};
 use smi_rows::{Mode, Stable};
 use smi_session::{ActionDone, ChildMode, ChildState, StationEvent, step_action};
 use smi_station::Station;
@@ -50,6 +50,17 @@ fn mode_of<T: StationState>(tree: &Tree, station: &T, child: u16) -> Option<Chil
         Mode::Manual => Some(ChildMode::Manual),
         Mode::Ignored => Some(ChildMode::Ignored),
     }
+}
+
+/// Returns true if an order may be answered by a step: one of its answers, one that it refuses or that is told its code
+/// at once, or a question that it replaces. An order that is accepted is answered by a later step.
+fn has_answer(event: &Event<'_>, made: &Result<Heard, StepFault>, out: &Out) -> bool {
+    let may_end = match event {
+        Event::Report(_, _) | Event::Order(_, Order::Report(_, _) | Order::Ask(_)) => true,
+        Event::Order(_, _) => !matches!(made, Ok(Heard::Same | Heard::Done)),
+        Event::Datagram(_) | Event::Tick => false,
+    };
+    may_end || !out.answers().is_empty()
 }
 
 /// Returns true if a mode is the one that was told. It compares by hand, because modes of children have no `==`.
@@ -201,7 +212,7 @@ impl<H: Files + Wait + Clock + Drop> EventForwarder<H> {
         made: &Result<Heard, StepFault>,
         out: &Out,
     ) {
-        if matches!(event, Event::Order(_, _) | Event::Report(_, _)) || !out.answers().is_empty() {
+        if has_answer(event, made, out) {
             self.queue.wake();
         }
         self.queue.go_on();
