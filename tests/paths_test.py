@@ -208,6 +208,16 @@ def open_files(child, path):
     return found
 
 
+def test_descriptors(start_node, folder):
+    """A file that was opened by a path that is no text is closed once it is read."""
+    path = os.path.join(folder.encode(), b"tree " + ODD)
+    with open(path, "w", encoding="ascii") as file:
+        file.write(trees.WORKED)
+    node = start_node(os.fsdecode(path), "A", os.path.join(folder, "store"))
+    assert node.ask("order ANN watch TPC").endswith(" 0")
+    assert open_files(node.child, path) == 0
+
+
 def is_taken(listing, pipe, data):
     """Writes to a pipe, and returns true once a listing has read that, or false if it has ended before."""
     os.write(pipe, data)

@@ -1,4 +1,7 @@
-//! Files by paths that need not be text.
+//! Opens and reads files by paths that need not be text.
+//!
+//! A path of a command line may have any bytes, and the toolchain's files have paths of text. Everything that the program
+//! reads by such a path comes through here: tree files, schedules, stores and what lies beside them.
 
 ghost use Rattle.std.specs.Prelude.{◌≡◌, ◌++◌, IfOk};
 
@@ -8,22 +11,30 @@ use std::io::{self, ErrorKind, Read};
 use std::rt::Files;
 
 /// Opens the file of a path. One that is no text is opened by its bytes, and then again by the name that the system has
-/// for what is open.
+/// for its descriptor, because the toolchain makes no file of a descriptor.
 ///
 /// It has no clause: what is at a path, the system alone says. tests/paths_test.py has paths of all kinds.
 pub fn open<H: Files + AllocGlobal>(host: &H, path: &[u8]) -> io::Result<H::File> {
     if let Ok(text) = str::from_utf8(path) {
         return fs::open(host, text);
     }
-    let place = os::open_read(path);
-    if place < 0 {
+    let descriptor = os::open_read(path);
+    if descriptor < 0 {
         return Err(io::Error::from_raw_os_error(os::errno()));
     }
-    let name = format!(in host.alloc(); "/proc/self/fd/{place}")?;
+    let opened = open_again(host, descriptor);
+    libc::close(descriptor);
+    opened
+}
+
+/// Opens what a descriptor is open on.
+fn open_again<H: Files + AllocGlobal>(host: &H, descriptor: i32) -> io::Result<H::File> {
+    let name = format!(in host.alloc(); "/proc/self/fd/{descriptor}")?;
     fs::open(host, name.as_str())
 }
 
-/// Returns the bytes of a file, or none if there is no file. What is no regular file is not opened.
+/// Returns the bytes of a file, or none if there is no file. What is no regular file is not opened, if its path is text;
+/// at another path the system has to be asked by opening it.
 ///
 /// It has no clause: what is at a path, the system alone says. tests/paths_test.py has paths of all kinds.
 pub fn bytes_of<H: Files + AllocGlobal>(host: &H, path: &[u8]) -> io::Result<Option<Vec<u8>>> {
@@ -45,7 +56,7 @@ pub fn bytes_of<H: Files + AllocGlobal>(host: &H, path: &[u8]) -> io::Result<Opt
     Ok(Some(bytes))
 }
 
-/// Returns the path with no link in it, if it is text.
+/// Returns the path with no link in it. A path that is no text is returned as it is.
 ///
 /// It has no clause: what is at a path, the system alone says. tests/paths_test.py has paths of all kinds.
 pub fn resolved<H: Files + AllocGlobal>(host: &H, path: &[u8]) -> io::Result<Vec<u8>> {
@@ -58,7 +69,7 @@ pub fn resolved<H: Files + AllocGlobal>(host: &H, path: &[u8]) -> io::Result<Vec
     }
 }
 
-/// Returns the path with more after it.
+/// Returns the path of a file that lies beside another: its path, and `more` after it, such as `-sum`.
 ///
 /// No clause names `alloc`, from which memory comes.
 pub fn beside(alloc: Global, path: &[u8], more: &[u8]) -> Result<Vec<u8>, AllocError>

@@ -1,4 +1,8 @@
-//! Whether the log of a store lost something in its middle.
+//! Finds out whether the log of a store lost something in its middle.
+//!
+//! The log is a write-ahead log of SQLite (its "Database File Format", section 4). The header has the word with which it
+//! begins (at byte 0), the size of a page (8), two salts (16) and two sums (24). Each frame has the number of its page
+//! (0), a word that is not zero if a save ends with it (4), the salts of the header (8), two sums (16), and a page (24).
 
 ghost use Rattle.std.specs.Prelude.{◌≡◌, ◌≤◌, take, drop, length};
 ghost use Rattle.smi_disks.specs.LogCheck as spec;
@@ -7,14 +11,16 @@ use smi_base::u32_at;
 use sqlite_wal::checksum_of;
 use std::marker::Model;
 
-/// How many bytes the header of a log has, and that of a frame.
+/// How many bytes the header of a log has.
 const HEADER: usize = 32;
 
+/// How many bytes stand before the page in a frame.
 const FRAME_HEADER: usize = 24;
 
-/// With what a log begins whose sums are of words with the lowest byte first, and with the highest byte first.
+/// The word with which a log begins whose sums are of words with the lowest byte first.
 const LOW_FIRST: u32 = 0x377f_0682;
 
+/// The word with which a log begins whose sums are of words with the highest byte first.
 const HIGH_FIRST: u32 = 0x377f_0683;
 
 /// A sum as the log has it: of each frame, going on from the one before.
@@ -25,11 +31,11 @@ type Sum = (u32, u32);
 pub(crate) enum LogWalk {
     /// Each frame goes on from the one before.
     Sound,
-    /// One does not. The save that a crash broke off ends so.
+    /// A frame does not go on from the one before. So ends a save that a crash broke off.
     Torn,
-    /// After that frame a save ends that had it.
+    /// After that frame a save has ended, which may be the one that had it.
     Ended,
-    /// After that save another one begins, which only is if that one was made.
+    /// After the end of that save a frame goes on: another save was begun, so the one with the bad frame was on the disk.
     Damaged,
 }
 
@@ -50,7 +56,7 @@ impl<'a> Model for LogReading<'a> {
     ghost view = { λ r. record { known = r.known; before = r.before; rest = r.rest.now } };
 }
 
-/// Returns the sum in the eight bytes from a place on; none has zeros.
+/// Returns the two words in the eight bytes from `at` on, or zeros if there are fewer bytes. Sums and salts lie so.
 fn sum_at(bytes: &[u8], at: usize) -> Sum
     requires { at ≤ FRAME_HEADER }
     ensures { result ≡ spec.sum_at bytes.now at }
@@ -145,7 +151,8 @@ fn frame_size(head: &[u8]) -> usize
     u32_at(head, 8) as usize + FRAME_HEADER
 }
 
-/// Reads a frame of this many bytes.
+/// Reads the next frame, of this many bytes. The one after it is held against the sum that this one has, right or wrong,
+/// so that what follows a bad frame is seen too.
 fn read_frame<'a>(head: &[u8], size: usize, reading: &LogReading<'a>) -> LogReading<'a>
     requires { HEADER ≤ length head.now }
     ensures { result ≡ spec.frame_read head.now size reading.now }
@@ -187,7 +194,7 @@ fn salts_in(head: &[u8]) -> [u8; 8]
     salts
 }
 
-/// Returns the salts of a log that has a header and after it nothing that goes on from there. None of any other log.
+/// Returns the salts of a log that has a header and after it nothing that goes on from there, or None of any other log.
 pub(crate) fn salts_of_empty(log: &[u8]) -> Option<[u8; 8]>
     ensures { result ≡ spec.salts_of_empty log.now }
 {
@@ -206,7 +213,8 @@ pub(crate) fn salts_of_empty(log: &[u8]) -> Option<[u8; 8]>
 /// follows that was begun after that of the frame. A save is begun once the one before is on the disk, so no crash
 /// leaves such a log. What reads it would go on from before that frame.
 ///
-/// Of a log whose header is damaged nothing is known, nor of the last save and the one before.
+/// Of a log whose header is damaged nothing is known, nor of its last saves: of two, or of three if what is bad is the
+/// sum that a frame has.
 pub fn is_damaged(log: &[u8]) -> bool
     ensures { result ≡ spec.is_damaged log.now }
 {

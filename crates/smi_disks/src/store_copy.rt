@@ -1,7 +1,7 @@
 //! Compares the file of a store with what it was when its log had been copied into it.
 //!
-//! What it was is a [`StoreCopy`]: a sum of the file, and the salts of the log. Its 40 bytes are its note, which the
-//! file `STORE-sum` has.
+//! What it was is a [`StoreCopy`], which is no copy but a note: a sum of the file, and the salts of the log. The file
+//! `STORE-sum` has its 40 bytes (docs/FORMATS.md, "The sum of a store").
 
 ghost use Rattle.std.specs.Prelude.{◌≡◌, OnOk};
 ghost use Rattle.sha2.specs.Sha256.{sha256};
@@ -17,7 +17,7 @@ pub const COPY_BYTES: usize = 40;
 /// How many of them are the salts of the log.
 const SALT_BYTES: usize = 8;
 
-/// What a store was when its log had been copied into its file.
+/// What the file of a store was when its log had been copied into it.
 #[derive(Clone, Copy, PartialEq, Eq)]
 pub struct StoreCopy {
     /// The salts in the header of its log. A log gets other ones each time that it is copied.
@@ -50,7 +50,8 @@ impl StoreCopy {
     ghost use Rattle.std.specs.Prelude.{◌≡◌, ◌≢◌, length, IfSome, None};
     ghost use Rattle.smi_disks.specs.StoreCopy as spec;
 
-    /// Returns what a store is now, by its file and its log. None if its log has something that is not copied.
+    /// Returns what a store is now, by its file and its log, or None if its log has something that is not copied, or has
+    /// no sound header.
     pub fn of_files(file: &[u8], log: &[u8]) -> Option<StoreCopy>
         ensures { result ≡ spec.copy_of file.now log.now }
     {
@@ -63,7 +64,7 @@ impl StoreCopy {
         }
     }
 
-    /// Reads a note. None if it has not [`COPY_BYTES`] bytes.
+    /// Returns the note in these bytes, or None if they are not [`COPY_BYTES`].
     pub fn of(bytes: &[u8]) -> Option<StoreCopy>
         ensures found { IfSome result (λ copy. bytes.now ≡ spec.copy_bytes copy) }
         ensures none { result ≡ None → length bytes.now ≢ COPY_BYTES }
@@ -79,7 +80,8 @@ impl StoreCopy {
         Some(StoreCopy { salts, sum })
     }
 
-    /// Returns true if nothing was logged since the note, and the file has another sum.
+    /// Returns true if nothing was logged since the note, and the file has another sum. If the log has other salts, or
+    /// none, nothing can be told, and it returns false.
     fn differs(&self, file: &[u8], log: &[u8]) -> bool
         ensures { result ≡ spec.differs self.now file.now log.now }
     {
