@@ -1,4 +1,7 @@
-//! The label of a store: what is in the file beside it.
+//! The label of a store: which tree it was made for, and the last start on it.
+//!
+//! A label lies in the file `STORE-tree` (`label_file.rt`). A start reads it before it opens the store, and refuses a
+//! store of another tree, or one whose rows are older than the label (docs/FORMATS.md, "The label of a store").
 
 ghost use Rattle.std.specs.Prelude.{◌≡◌, OnOk};
 ghost use Rattle.smi_disks.specs.Label as spec;
@@ -6,7 +9,7 @@ ghost use Rattle.smi_disks.specs.Label as spec;
 use crate::mark::{MARK_BYTES, TreeMark};
 use std::alloc::AllocError;
 
-/// How many bytes say which start was the last one.
+/// How many bytes say which start was the last one: two for the station, four for its boot.
 const START_BYTES: usize = 6;
 
 /// How many bytes a label has that names the last start. One that names none has those of a mark.
@@ -16,10 +19,11 @@ pub const LABEL_BYTES: usize = MARK_BYTES + START_BYTES;
 #[derive(Clone, Copy, PartialEq, Eq)]
 pub struct LastStart {
     pub station: u16,
+    /// How often the station had been started by then, with this start.
     pub boot: u32,
 }
 
-/// The tree that a store was made for, and the last start on it, unless the label is older than such notes.
+/// The tree that a store was made for, and the last start on it. An older program wrote labels without a start.
 #[derive(Clone, Copy, PartialEq, Eq)]
 pub struct StoreLabel {
     pub tree: TreeMark,
@@ -92,7 +96,7 @@ impl StoreLabel {
     ghost use Rattle.std.specs.Prelude.{◌≡◌, ◌≢◌, length, IfSome, None};
     ghost use Rattle.smi_disks.specs.Label.{noted, spelled};
 
-    /// Returns the label of these bytes. None if they are as many as no label has.
+    /// Returns the label of these bytes, or None if no label has as many.
     pub fn of(bytes: &[u8]) -> Option<StoreLabel>
         ensures found { IfSome result (λ label. bytes.now ≡ spelled label) }
         ensures none { result ≡ None → (length bytes.now ≢ MARK_BYTES) × (length bytes.now ≢ LABEL_BYTES) }
@@ -111,7 +115,7 @@ impl StoreLabel {
         })
     }
 
-    /// Returns the boot that it notes of a station, if any.
+    /// Returns the boot that it notes of a station, or None if it notes a start of another one, or none.
     pub fn noted(&self, station: u16) -> Option<u32>
         ensures { result ≡ noted self.now station }
     {

@@ -1,4 +1,4 @@
-//! The file that has the label of a store.
+//! Reads and writes the file `STORE-tree`, which has the label of a store.
 
 use crate::file::{beside, bytes_of};
 use crate::label::{LABEL_BYTES, LastStart, spell_label};

@@ -1,5 +1,7 @@
-//! A listing of a store: of a copy of its files in memory, so that it needs no leave to write, makes and leaves
-//! nothing, and is in nobody's way: a station may run on the store, and any number of listings beside it.
+//! Lists the rows of a store, for `smi rows`.
+//!
+//! It reads the files of the store into memory and lists that copy. So it needs no right to write, makes no file and
+//! leaves none, and locks nothing: a station may run on the store, and any number of listings beside it.
 
 ghost use Rattle.std.specs.Prelude.{◌≡◌, ◌≢◌, ◌↔◌, true, IsTrue, IfOk, slice_index};
 ghost use Rattle.std.specs.IoError.{error_kind};
@@ -16,16 +18,17 @@ use std::rt;
 use std::thread::sleep;
 use std::time::{Clock, Duration};
 
-/// How often a store is read again that was written in the meantime, a millisecond later.
+/// How often a store is read again, a millisecond later each time, if it was written meanwhile. After that its listing
+/// ends with a fault.
 const MOST_TRIES: u32 = 200;
 
-/// How many bytes, and how many calls, a disk in memory has room for beside what it begins with. What a
-/// listing writes on it is less.
+/// How many bytes a disk in memory has room for beside what it begins with. A listing writes less on it.
 const ROOM: usize = 64 * 1024;
 
+/// How many calls a disk in memory has room for. A listing makes fewer.
 const CALLS: u32 = 1_024;
 
-/// Writes the rows of a store, a line each.
+/// Writes the rows of a store, a line each (docs/FORMATS.md, "Stable rows"), and returns how that ended.
 ///
 /// It has no clause: what is at a path, the system alone says. What is written of a copy has one, and tests/stores.py
 /// lists stores.
@@ -51,11 +54,14 @@ fn listed_unread(error: &io::Error) -> Listed
     }
 }
 
-/// The bytes of a store's file and of its log, and whether no other program is changing the file.
+/// A copy of a store's files in memory.
 #[derive(Drop)]
 struct Copy {
+    /// The bytes of its file.
     db: Vec<u8>,
+    /// The bytes of its log, or none if there is no log.
     log: Vec<u8>,
+    /// True if no other program has left the file half changed.
     is_settled: bool,
 }
 
@@ -85,6 +91,7 @@ fn are_of_one_moment(first: &Copy, second: &Copy) -> bool
         && first.log.as_slice() == second.log.as_slice()
 }
 
+/// Reads the files of a store once.
 fn read<H: rt::Files + AllocGlobal>(host: &H, path: &[u8]) -> io::Result<Copy> {
     let Some(db) = bytes_of(host, path)? else {
         return Err(io::Error::from(ErrorKind::NotFound));
@@ -105,6 +112,7 @@ fn is_to_be_played_back(journal: &[u8]) -> bool
     journal.first().is_some_and(|byte| *byte != 0)
 }
 
+/// Lists a copy of a store.
 fn list_copy<W: Write>(alloc: Global, copy: &Copy, writer: &mut W) -> Listed {
     // Nothing was ever saved.
     if copy.db.is_empty() && copy.log.is_empty() {
@@ -116,6 +124,7 @@ fn list_copy<W: Write>(alloc: Global, copy: &Copy, writer: &mut W) -> Listed {
     }
 }
 
+/// Returns the disks in memory on which the copy of a store is opened.
 fn disks(alloc: Global, copy: &Copy) -> io::Result<Files<Memory>> {
     Ok(Files {
         log: disk(alloc, copy.log.as_slice())?,
@@ -137,6 +146,7 @@ fn disk(alloc: Global, bytes: &[u8]) -> io::Result<Memory> {
     Ok(disk)
 }
 
+/// Opens a store on disks in memory, and lists it.
 fn list_in<W: Write>(alloc: Global, files: Files<Memory>, writer: &mut W) -> Listed {
     if !files.may_be_used() {
         return Listed::Memory;
@@ -178,6 +188,7 @@ fn database_of<S: Alter + Drop>(stable: SqliteStable<S>) -> S {
     }
 }
 
+/// Lists the rows of the store on a connection, if it is one.
 // Over any store, since each function that names the store of SQLite is expensive to prove.
 fn list_over<S: EndsWell, W: Write>(connection: Connection<S>, writer: &mut W) -> Listed {
     match SqliteStable::adopt(connection) {

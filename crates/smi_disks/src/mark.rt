@@ -1,12 +1,13 @@
-//! The mark of a tree, which the label of a store begins with.
+//! The mark of a tree: its number, and a digest of what its file says. The label of a store begins with it, so that a
+//! station is not started on a store of another tree.
 
 ghost use Rattle.std.specs.Prelude.{◌≡◌};
 ghost use Rattle.smi_disks.specs.Mark.{kin};
 
-/// How many bytes a mark has.
+/// How many bytes a mark has: two for the number of the tree, and 32 for the digest.
 pub const MARK_BYTES: usize = 34;
 
-/// The number of a tree, and the digest of what its file says.
+/// The number of a tree, and the digest of what its file says (`speaking.rt`).
 #[derive(Clone, Copy, PartialEq, Eq)]
 pub struct TreeMark {
     pub number: u16,
@@ -38,7 +39,7 @@ impl TreeMark {
         bytes
     }
 
-    /// Returns the mark of these bytes, or none if a mark has another number of bytes.
+    /// Returns the mark of these bytes, or None if they are not [`MARK_BYTES`].
     pub fn of(bytes: &[u8]) -> Option<TreeMark>
         ensures found { IfSome result (λ mark. bytes.now ≡ mark_bytes mark) }
         ensures none { result ≡ None → length bytes.now ≢ MARK_BYTES }

@@ -1,4 +1,7 @@
-//! What a tree file says.
+//! The text of what a tree file says, and its digest.
+//!
+//! The digest goes into the label of a store. Two files that differ only in blanks, comments, or the addresses of their
+//! stations say the same, so a crew can lay a file out anew, or move a station, without a new store.
 
 ghost use Rattle.std.specs.Prelude.{◌≡◌, ◌++◌, ◌∷◌, [], IfOk, OnOk, take};
 ghost use Rattle.sha2.specs.Sha256.{sha256};

@@ -1,4 +1,6 @@
-//! Stores by their paths.
+//! Opens, closes and lists stores by their paths: [`Stores`], which the program has of its host.
+//!
+//! What is opened is SQLite's store, with its files watched ([`Watched`]) and its label read.
 
 ghost use Rattle.std.specs.Prelude.{◌≡◌, ◌≢◌, Ok, Err, IfOk, IfErr};
 ghost use Rattle.std.specs.IoError.{error_kind};
@@ -229,7 +231,7 @@ impl ConnectionEnd for Connection<FileStore<File>> {
 
 // All three over any store, since each function that names the store of SQLite is expensive to prove.
 
-/// Takes a connection for a store, or closes it if it is none.
+/// Takes a connection for a store. If it is none, its files are closed as they are: they may be another program's.
 fn adopted<S: Alter>(connection: Connection<S>) -> Result<SqliteStable<S>, StoreFault>
 where
     Connection<S>: ConnectionEnd,
@@ -237,7 +239,7 @@ where
     match SqliteStable::adopt(connection) {
         Ok(stable) => Ok(stable),
         Err((fault, connection)) => {
-            connection.end();
+            connection.abandon();
             Err(fault)
         }
     }

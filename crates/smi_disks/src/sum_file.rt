@@ -1,4 +1,5 @@
-//! The file that has the sum of a store, and what is seen of the store's files by it.
+//! Reads and writes the file `STORE-sum`, which has the sum of a store, and finds out by it whether the store's files
+//! are sound (docs/FORMATS.md, "The sum of a store").
 
 ghost use Rattle.std.specs.Prelude.{◌≡◌, MatchOption, IfOk, true, false};
 ghost use Rattle.smi_disks.specs.StoreCopy.{copy_bytes, copy_of};
@@ -10,9 +11,10 @@ use std::alloc::{AllocError, Global};
 use std::io;
 use std::rt::Files;
 
-/// What follows the path of a store in that of its sum, and in that of its log.
+/// What follows the path of a store in that of its sum.
 const SUM: &str = "-sum";
 
+/// What follows the path of a store in that of its log.
 const LOG: &[u8] = b"-wal";
 
 /// Where the sum of a store is written.
@@ -62,18 +64,18 @@ fn spell_note(text: &mut Vec<u8>, file: &[u8], log: &[u8]) -> Result<bool, Alloc
     Ok(true)
 }
 
-/// Returns the bytes of a store's file; none if there is no file.
+/// Returns the bytes of a store's file, or no bytes if there is no file.
 fn store_bytes<H: Files + AllocGlobal>(host: &H, store: &[u8]) -> io::Result<Vec<u8>> {
     Ok(bytes_of(host, store)?.unwrap_or(Vec::new(host.alloc())))
 }
 
-/// Returns the bytes of a store's log; none if there is no log.
+/// Returns the bytes of a store's log, or no bytes if there is no log.
 fn log_bytes<H: Files + AllocGlobal>(host: &H, store: &[u8]) -> io::Result<Vec<u8>> {
     let path = beside(host.alloc(), store, LOG)?;
     Ok(bytes_of(host, path.as_slice())?.unwrap_or(Vec::new(host.alloc())))
 }
 
-/// Returns what a store was when its log was copied last, if that is noted.
+/// Returns what a store was when its log was copied last, or None if that is not noted, or its note has another length.
 fn copy_beside<H: Files + AllocGlobal>(host: &H, store: &[u8]) -> io::Result<Option<StoreCopy>> {
     let path = beside(host.alloc(), store, SUM.as_bytes())?;
     match bytes_of(host, path.as_slice())? {

@@ -1,4 +1,9 @@
-//! What is beside a store that is open: its files at their paths, its label and its sum.
+//! Looks after what is beside a store that is open: its files at their paths, its label and its sum.
+//!
+//! [`Watched`] asks before each save whether the files are in place, notes each start in the label, and notes the sum
+//! once the log was copied.
+//!
+//! [`Watched`]: crate::Watched
 
 use crate::label::LastStart;
 use crate::label_file::LabelFile;
@@ -40,10 +45,11 @@ pub trait Surroundings {
         ensures noted { noted self.new ≡ noted self.old };
 }
 
-/// Which file of the system a file is.
+/// Which file of the system a file is: another file at the same path has another number.
 #[derive(Clone, Copy, PartialEq, Eq)]
 struct FileId {
     device: u64,
+    /// The number of its inode.
     number: u64,
 }
 
