@@ -15,8 +15,8 @@ use std::io::{self, Write};
 /// Writes a line for each doubt about a tree: of stations, of actions and rules by domain, of states, of devices, each
 /// by number. What can't be written is passed over.
 ///
-/// It has no clause: it writes words, which tests/trees.py compares. If there is a doubt, the functions that find it say
-/// so by clauses.
+/// It has no clause: it writes words, which tests/trees.py compares. If there is a doubt, the functions that find it
+/// say so by clauses.
 pub fn tell<W: Write>(tree: &Tree, writer: &mut W) {
     for station in 1..=tree.station_count() {
         if let Some(other) = twin(tree, station) {

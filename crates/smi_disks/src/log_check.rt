@@ -1,8 +1,9 @@
 //! Finds out whether the log of a store lost something in its middle.
 //!
-//! The log is a write-ahead log of SQLite (its "Database File Format", section 4). The header has the word with which it
-//! begins (at byte 0), the size of a page (8), two salts (16) and two sums (24). Each frame has the number of its page
-//! (0), a word that is not zero if a save ends with it (4), the salts of the header (8), two sums (16), and a page (24).
+//! The log is a write-ahead log of SQLite (its "Database File Format", section 4). The header has the word with which
+//! it begins (at byte 0), the size of a page (8), two salts (16) and two sums (24). Each frame has the number of its
+//! page (0), a word that is not zero if a save ends with it (4), the salts of the header (8), two sums (16), and a page
+//! (24).
 
 ghost use Rattle.std.specs.Prelude.{◌≡◌, ◌≤◌, take, drop, length};
 ghost use Rattle.smi_disks.specs.LogCheck as spec;
@@ -35,7 +36,8 @@ pub(crate) enum LogWalk {
     Torn,
     /// After that frame a save has ended, which may be the one that had it.
     Ended,
-    /// After the end of that save a frame goes on: another save was begun, so the one with the bad frame was on the disk.
+    /// After the end of that save a frame goes on: another save was begun, so the one with the bad frame was on the
+    /// disk.
     Damaged,
 }
 
@@ -151,8 +153,8 @@ fn frame_size(head: &[u8]) -> usize
     u32_at(head, 8) as usize + FRAME_HEADER
 }
 
-/// Reads the next frame, of this many bytes. The one after it is held against the sum that this one has, right or wrong,
-/// so that what follows a bad frame is seen too.
+/// Reads the next frame, of this many bytes. The one after it is held against the sum that this one has, right or
+/// wrong, so that what follows a bad frame is seen too.
 fn read_frame<'a>(head: &[u8], size: usize, reading: &LogReading<'a>) -> LogReading<'a>
     requires { HEADER ≤ length head.now }
     ensures { result ≡ spec.frame_read head.now size reading.now }

@@ -50,8 +50,8 @@ impl StoreCopy {
     ghost use Rattle.std.specs.Prelude.{◌≡◌, ◌≢◌, length, IfSome, None};
     ghost use Rattle.smi_disks.specs.StoreCopy as spec;
 
-    /// Returns what a store is now, by its file and its log, or None if its log has something that is not copied, or has
-    /// no sound header.
+    /// Returns what a store is now, by its file and its log, or None if its log has something that is not copied, or
+    /// has no sound header.
     pub fn of_files(file: &[u8], log: &[u8]) -> Option<StoreCopy>
         ensures { result ≡ spec.copy_of file.now log.now }
     {

@@ -1,5 +1,5 @@
-//! What tests of several crates share: the worked tree of examples/worked.tree, rows of docs/FORMATS.md ("Stable rows"),
-//! and readers and writers that are slow or fail.
+//! What tests of several crates share: the worked tree of examples/worked.tree, rows of docs/FORMATS.md ("Stable
+//! rows"), and readers and writers that are slow or fail.
 #![tactic(auto)]
 
 mod rows;
