@@ -1,4 +1,6 @@
-//! Which action the step of an event did, and at which devices.
+//! Finds the action that a step of the station did, and at which devices. `crates/smi_console/src/event_forwarder.rt`
+//! calls `step_action` after each step, and makes of each device an `ActionDone`, which sessions receive as `acted`
+//! lines (docs/FORMATS.md, "Lines with a tag"). So an action that is not found here is told to no session.
 
 ghost use Rattle.std.specs.Prelude.{◌≡◌, option_map};
 ghost use Rattle.smi_session.specs.Action as spec;
@@ -8,10 +10,13 @@ use smi_message::{Body, decode};
 use smi_protocol::{Event, Heard, StepFault};
 use smi_tree::Tree;
 
-/// An action that a step did, and its devices by number: all of its domain, whether they moved or not.
+/// An action that a step did, and the devices at which it was done.
 #[derive(Clone, Copy)]
 pub struct StepAction<'a> {
+    /// The number of the action, from 1.
     pub action: u16,
+    /// All devices of its domain by number, from 1 among devices. Those that the action did not move are among them
+    /// too.
     pub devices: &'a [u16],
     /// The domain at which its command has run.
     pub domain: u16,
@@ -31,7 +36,7 @@ fn action_of(tree: &Tree, domain: u16, command: Command) -> Option<u16>
     }
 }
 
-/// Returns the action of a datagram whose command has run.
+/// Returns the action of a `RUN` datagram whose command has run. None if it ran no action, or for any other datagram.
 fn run_action<'a>(tree: &'a Tree, body: &Body) -> Option<StepAction<'a>>
     ensures { option_map (λ d. (d.action, d.devices.now, d.domain, d.epoch, d.number)) result
         ≡ spec.run_action tree.now body.now }
@@ -57,8 +62,8 @@ fn run_action<'a>(tree: &'a Tree, body: &Body) -> Option<StepAction<'a>>
     }
 }
 
-/// Returns the action that the step of an event did, by what the step answered. None if no command ran in it: one that
-/// had run before is not done again.
+/// Returns the action that the step of an event did, by the outcome of the step (`made`). None if the step ran no
+/// command: a command that has run before is not run again.
 pub fn step_action<'a>(
     tree: &'a Tree,
     event: &Event<'_>,
@@ -70,6 +75,7 @@ pub fn step_action<'a>(
     match (event, made) {
         (Event::Datagram(bytes), Ok(Heard::Done)) => match decode(bytes) {
             Ok(datagram) => run_action(tree, &datagram.body),
+            // The station refuses such bytes, so nothing was done.
             Err(_) => None,
         },
         _ => None,

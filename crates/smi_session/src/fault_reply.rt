@@ -1,4 +1,7 @@
-//! The reply to a line that is refused.
+//! Writes the reply to a line that is refused. `service.rt` calls `push_fault`. A script gets `line 3 fault 5`; a
+//! person gets the reason too, as `line 3 fault 5: HVX is no device of the tree`. docs/FORMATS.md, "A node's lines" and
+//! "Connections", fixes these texts, and docs/NUMBERS.md, "Faults of a line", the codes. Clients read the codes; the
+//! words are for people.
 
 ghost use Rattle.std.specs.Prelude.{◌≡◌, ◌++◌, ◌∷◌, [], OnOk, is_some};
 ghost use Rattle.std.specs.Fmt.{decimal};
@@ -14,7 +17,7 @@ use smi_tree::{Fault, Tree, first_word};
 use std::alloc::AllocError;
 use std::io::Write;
 
-/// Returns a fault in words.
+/// Returns what a fault means, in words for a person.
 fn words_of(fault: Fault) -> &'static [u8]
     ensures { result.now ≡ spec.words_of fault }
 {
@@ -24,12 +27,13 @@ fn words_of(fault: Fault) -> &'static [u8]
         Fault::Malformed => b"a name that is not well formed",
         Fault::UnknownName => b"a name that this station does not have as what the line wants",
         Fault::LineTooLong => b"more than 200 bytes",
+        // Reading a line of a node finds no other fault.
         _ => b"no line of a node",
     }
 }
 
-/// Returns what is wrong with a line whose first word is unknown: an order lacks what it begins with, if that word is
-/// the verb of one.
+/// Returns what is wrong with a line whose first word is unknown. If that word is the verb of an order, as in `take
+/// DCS`, it says that `order OPERATOR` is missing.
 fn words_of_word(line: &[u8]) -> &'static [u8]
     ensures { result.now ≡ spec.words_of_word (words line.now) }
 {
@@ -39,7 +43,8 @@ fn words_of_word(line: &[u8]) -> &'static [u8]
     }
 }
 
-/// Adds which name of a line is unknown.
+/// Appends which name of a line is unknown, as `HVX is no device of the tree`. If none is found, appends the general
+/// words.
 fn push_unknown(
     text: &mut Vec<u8>,
     tree: &Tree,
@@ -59,7 +64,7 @@ fn push_unknown(
     }
 }
 
-/// Adds what is wrong with a line in words. If a name of it is unknown, that name is told.
+/// Appends what is wrong with a line, in words. Of an unknown name it says which one it is.
 fn push_reason(
     text: &mut Vec<u8>,
     tree: &Tree,
@@ -76,7 +81,8 @@ fn push_reason(
     }
 }
 
-/// Puts the fault of a line into a text, in place of what was there: with its number, if it has no tag.
+/// Writes the front of a fault's line in place of what the text had: `line 3 fault 5`, or `fault 5` if the line has a
+/// tag.
 fn write_fault(
     text: &mut Vec<u8>,
     has_tag: bool,
@@ -88,13 +94,14 @@ fn write_fault(
     text.clear();
     if !has_tag {
         text.extend_from_slice(b"line ")?;
+        // Writing into a Vec fails only if memory is refused.
         write!(text, "{number} ").map_err(|_| AllocError)?;
     }
     text.extend_from_slice(b"fault ")?;
     write!(text, "{}", fault.code()).map_err(|_| AllocError)
 }
 
-/// Ends the line of a fault, for a person with the reason.
+/// Ends the line of a fault. For a person it appends the reason first, after `: `.
 fn end_fault(
     text: &mut Vec<u8>,
     tree: &Tree,
@@ -118,9 +125,10 @@ fn end_fault(
     Ok(())
 }
 
-/// Tells a session the fault of its line: after its tag, among the answers, or apart.
+/// Pushes the fault of a line to its session. A fault of a script's line without a tag goes to the session's errors,
+/// which are printed on standard error. Any other goes to its output, after the tag if there is one.
 ///
-/// Its error is that memory was refused.
+/// Fails if memory is refused.
 pub(crate) fn push_fault(
     text: &mut Vec<u8>,
     tree: &Tree,

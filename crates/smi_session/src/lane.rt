@@ -1,4 +1,7 @@
-//! The lanes of an operator: which of his orders wait side by side.
+//! Says which orders of one operator wait for each other: what a lane takes, what joins the commands in work, and which
+//! orders are about the same domain. `seat_queue.rt` and `seat_table.rt` choose the seat of an order by these
+//! functions. docs/PROTOCOL.md, "Seats and the desk", and docs/FORMATS.md, "Orders of one operator", promise what
+//! follows from them.
 
 ghost use Rattle.std.specs.Prelude.{◌≡◌};
 ghost use Rattle.std.specs.List.{list_all};
@@ -10,20 +13,22 @@ use smi_operator::LANES;
 use smi_protocol::{Order, Request};
 use std::collections::VecDeque;
 
-/// The most commands of a seat that a station takes at a time.
+/// The most commands on one domain that are in work together at a seat. It has to be `MOST_WORK` of
+/// `crates/smi_operator/src/work.rt`. If it were more, the desk would leave some of them in the ring of the seat, and
+/// they could not be taken back.
 const MOST_WORK: usize = 8;
 
-/// What the seats of an operator are for. An operator has seven: four for orders, one for `watch` and `unwatch`, and
-/// two for questions. Reports have one seat for all.
+/// What a seat is for. Each operator has seven seats, its lanes: four for orders, one for `watch` and `unwatch`, and
+/// two for questions. The reports of all have one seat, whose lane is `Any`.
 #[derive(Clone, Copy)]
 pub enum Lane {
-    /// Any orders, one after the other.
+    /// Takes any order. Its orders are answered one after the other. Only the seat for reports has it.
     Any,
-    /// Orders about one domain at a time, one after the other.
+    /// Takes orders about one domain at a time.
     Orders,
-    /// `watch` and `unwatch`, which wait for nobody.
+    /// Takes `watch` and `unwatch`, which the station answers at once.
     Watches,
-    /// One question at a time.
+    /// Takes one `ask` at a time.
     Questions,
 }
 
@@ -64,7 +69,8 @@ fn are_on(pending: &VecDeque<PendingOrder>, domain: u16) -> bool
     pending.iter().all(|it| is_on(domain, it.order))
 }
 
-/// Returns true if an order is a further command beside these, which are fewer than eight commands on its domain.
+/// Returns true if an order is a command that the station takes beside these pending orders: they are fewer than eight,
+/// and all of them are commands on its domain.
 pub(crate) fn is_further(order: Order, pending: &VecDeque<PendingOrder>) -> bool
     ensures { result ≡ spec.is_further (commanded order) pending.now.items }
 {
@@ -74,7 +80,7 @@ pub(crate) fn is_further(order: Order, pending: &VecDeque<PendingOrder>) -> bool
     }
 }
 
-/// Returns true if both orders are about one domain.
+/// Returns true if both orders are about the same domain. Returns false if one of them is about none.
 pub(crate) fn are_of_one_domain(order: Order, other: Order) -> bool
     ensures { result ≡ spec.are_of_one_domain order other }
 {
@@ -105,7 +111,7 @@ fn is_watch(order: Order) -> bool
     }
 }
 
-/// Returns true if an order is a question.
+/// Returns true if an order is an `ask`.
 fn is_question(order: Order) -> bool
     ensures { result ≡ spec.is_question order }
 {
@@ -115,11 +121,14 @@ fn is_question(order: Order) -> bool
     }
 }
 
-/// Returns the lane of a seat by its number, from 0: each seven seats are those of one operator.
+/// Returns the lane of an operator's seat, by its index from 0 among all seats of operators. Each operator has `LANES`
+/// seats in a row (`operators_by_seat` of `smi_operator`).
 pub(crate) fn lane_at(seat: usize) -> Lane
     ensures { result ≡ spec.lane_at seat }
 {
     match seat % LANES {
+        // Two for questions, because a newer question is given while an older one waits. The node then ends the older
+        // one as replaced.
         4 => Lane::Watches,
         5 | 6 => Lane::Questions,
         _ => Lane::Orders,
@@ -130,7 +139,7 @@ impl Lane {
     ghost use Rattle.std.specs.Prelude.{◌≡◌};
     ghost use Rattle.smi_session.specs.Lane as spec;
 
-    /// Returns true if such an order belongs there.
+    /// Returns true if an order belongs on this lane.
     pub(crate) fn takes(self, order: Order) -> bool
         ensures { result ≡ spec.takes self order }
     {
@@ -142,7 +151,8 @@ impl Lane {
         }
     }
 
-    /// Returns true if any orders may be pending there one after the other, because none waits for long.
+    /// Returns true if several orders may be pending on this lane, because the station lets none of them wait for
+    /// another station.
     pub(crate) fn is_shared(self) -> bool
         ensures { result ≡ spec.is_shared self }
     {

@@ -1,11 +1,12 @@
-//! What people and programs type at a node: their lines become orders at seats, and each answer goes to the session
-//! that gave its order.
+//! The sessions of a node: the lines that people and programs type become orders at seats, and each answer goes to the
+//! session that gave its order. `smi_console` calls all of it, and has the sockets, threads and clocks. `smi_screen`
+//! reads the answers of its console with a [`LineSplitter`].
 //!
-//! A [`Session`] is a client: a connection, or the standard input. A [`LineSplitter`] cuts its bytes into lines,
-//! and [`SessionService`] reads them. The service has all seats of the station in its [`SeatTable`]. No call waits. An
+//! A [`Session`] is a client: a connection, or the standard input. A [`LineSplitter`] cuts its bytes into lines, and
+//! [`SessionService`] handles them. The service has all seats of the station in its [`SeatTable`]. No call waits. An
 //! order is in the [`SeatQueue`] of its operator, with the number of its session and the tag of its line, until the
-//! station answers it. A seat answers its orders in their order, so the oldest order of a queue is the one that the
-//! next answer is of. If its session has left by then, nobody is told.
+//! station answers it. A seat answers its orders in their order, so its next answer is that of its queue's oldest
+//! order. If the session of that order has ended by then, the answer is told to nobody.
 //!
 //! A line without a tag waits until the order of its session before it is answered. A line with a tag waits for
 //! nothing. Neither waits for another session, unless the seat of their operator is full.
@@ -13,8 +14,7 @@
 //! A connection whose first line begins with a word that no line of a node has is refused ([`Session::is_refused`]),
 //! because a web page can have a browser send such lines: the head of a request. None of its later lines is read.
 //!
-//! docs/FORMATS.md, "A node's lines", says what a line may be and what is answered. Sockets, threads and clocks are in
-//! `smi_console`.
+//! docs/FORMATS.md, "A node's lines", says what a line may be and what is answered.
 //!
 //! # How it is proved
 //!
@@ -23,8 +23,8 @@
 //! - `request_of_line` (`specs/Request`) says what a line asks. It is built on `request_in` (`specs/Line`), which says
 //!   it by what the same line is in a schedule, over `query_in` (`specs/Query`), and over `tag_of` (`specs/Tag`).
 //! - `Receives` (`specs/Handling`) says what a line does to the service and to its session. A line with a tag is
-//!   handled at once. Any other waits for those before it, and `Resumes` handles those that wait one after the
-//!   other, until one holds up the others or 64 were handled.
+//!   handled at once. Any other waits for those before it, and `Resumes` handles those that wait one after the other,
+//!   until one holds up the others or 64 were handled.
 //! - `Trust` (`specs/Trust`) is what the lines of a session have shown of it.
 //! - `Gives` (`specs/SeatTable`) says what becomes of an order. It is submitted once, after those before it, at a seat
 //!   of its operator, and is the newest of that queue. Or it waits for a seat, or its session keeps it as deferred:

@@ -1,4 +1,6 @@
-//! Lines that are those of a schedule, `show`, `will` and `withdraw`.
+//! Parses the lines that are no query: `order` and `report`, which are as in a schedule, and `show`, `will` and
+//! `withdraw`, which a node alone has. `request.rt` calls `request_in` for each line. docs/FORMATS.md, "A node's
+//! lines", fixes the lines, their faults and the order of these.
 
 ghost use Rattle.std.specs.Prelude.{◌≡◌, ◌≤◌, IsTrue};
 ghost use Rattle.smi_tree.specs.Lookups.{operators_of, station_count};
@@ -12,14 +14,15 @@ use smi_protocol::{Deed, Item, Order};
 use smi_schedule::read_item;
 use smi_tree::{Fault, Tree, first_word, is_comment, one_name, two_names};
 
-/// Returns true if an operator is one of a station.
+/// Returns true if an operator is among these, which are those of the station.
 fn is_of(operators: &[u16], operator: u16) -> bool
     ensures { result ≡ spec.is_of operators.now operator }
 {
     operators.iter().any(|other| *other == operator)
 }
 
-/// Returns what an item of a schedule asks of a node with these operators.
+/// Returns what an item of a schedule asks of a node with these operators. Its fault is an unknown name if the operator
+/// is another station's, and an unknown word if the item is neither an order nor a report.
 fn asked(operators: &[u16], item: Item) -> Result<SessionRequest, Fault>
     ensures { result ≡ spec.asked operators.now item }
 {
@@ -38,7 +41,7 @@ fn asked(operators: &[u16], item: Item) -> Result<SessionRequest, Fault>
     }
 }
 
-/// Returns what the words after `show` ask.
+/// Returns what the words after `show` ask: the state of an object.
 #[tactic(auto, unfolding(crate::specs::Line::shown))]
 fn shown(tree: &Tree, text: &[u8]) -> Result<SessionRequest, Fault>
     ensures { result ≡ spec.shown tree.now (words text.now) }
@@ -48,7 +51,7 @@ fn shown(tree: &Tree, text: &[u8]) -> Result<SessionRequest, Fault>
     Ok(SessionRequest::Show(object))
 }
 
-/// Returns what the words after `will` ask.
+/// Returns what the words after `will` ask: to keep a device's state as a will.
 #[tactic(auto, unfolding(crate::specs::Line::willed))]
 fn willed(tree: &Tree, text: &[u8]) -> Result<SessionRequest, Fault>
     ensures { result ≡ spec.willed tree.now (words text.now) }
@@ -59,7 +62,7 @@ fn willed(tree: &Tree, text: &[u8]) -> Result<SessionRequest, Fault>
     Ok(SessionRequest::Will(DeviceWill { device, state }))
 }
 
-/// Returns what the words after `withdraw` ask.
+/// Returns what the words after `withdraw` ask. Its fault is a word count if they are not exactly one, which is a tag.
 #[tactic(auto, unfolding(crate::specs::Line::withdrawing))]
 fn withdrawing(text: &[u8]) -> Result<SessionRequest, Fault>
     ensures { result ≡ spec.withdrawing (words text.now) }
@@ -71,7 +74,8 @@ fn withdrawing(text: &[u8]) -> Result<SessionRequest, Fault>
     }
 }
 
-/// Returns what an `order` or a `report` asks, as a schedule has it.
+/// Returns what an `order` or a `report` asks, parsed as a schedule's line. None if the line has no words or is a
+/// comment.
 #[tactic(auto, unfolding(crate::specs::Line::request_as_item))]
 fn request_as_item(
     tree: &Tree,
@@ -86,7 +90,7 @@ fn request_as_item(
     }
 }
 
-/// What a line is, by its first word.
+/// The kind of a line, by its first word. Queries are not among them: see `query.rt`.
 #[derive(Clone, Copy)]
 pub(crate) enum LineKind {
     Show,
@@ -96,7 +100,7 @@ pub(crate) enum LineKind {
     Withdraw,
 }
 
-/// Returns what a line is that begins with this word.
+/// Returns the kind of a line that begins with this word. None if it is the first word of no such line.
 pub(crate) fn kind_of(word: &[u8]) -> Option<LineKind>
     ensures { result ≡ spec.kind_of word.now }
 {
@@ -115,7 +119,7 @@ pub(crate) fn kind_of(word: &[u8]) -> Option<LineKind>
     }
 }
 
-/// Returns what a line of this kind asks, if these words follow its first one.
+/// Returns what a line of this kind asks. `line` is the whole of it, and `rest` what follows its first word.
 #[tactic(auto, unfolding(crate::specs::Line::request_of))]
 fn request_of(
     tree: &Tree,
@@ -137,7 +141,7 @@ fn request_of(
 
 /// Returns what a line asks of a station with these operators. None if it has no words or is a comment.
 ///
-/// The line is without its line feed and the carriage return before it. An `order` or a `report` is as in a schedule,
+/// The line is without its line feed and the carriage return before it. An `order` or a `report` is as in a schedule.
 /// `show` is followed by an object's name, `will` by those of a device and a state, and `withdraw` by a tag. The faults
 /// are those of schedules, in their order. An operator of another station is unknown here. It takes no memory.
 #[tactic(auto, unfolding(crate::specs::Line::request_in))]

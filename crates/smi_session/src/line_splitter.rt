@@ -1,4 +1,6 @@
-//! Cuts the bytes of a session into lines.
+//! Cuts the bytes that come from a client into lines. `smi_console` has a splitter for each connection and one for the
+//! standard input, and `smi_screen` has one for its console. A line is the same however its bytes come in blocks
+//! (`law::blocks_do_not_matter`).
 
 ghost use Rattle.std.specs.Prelude.{◌≡◌, ◌++◌, [], IfOk, OnOk, option_map};
 ghost use Rattle.smi_session.specs.LineSplitter.{TakesLine, behind_first, first_line, is_empty, kept, last_line};
@@ -8,16 +10,19 @@ use smi_tree::{length_of_line, without_return};
 use std::alloc::{AllocError, Global};
 use std::marker::Model;
 
-/// The most bytes of a line that are kept: one of more than 200 without its carriage return is seen to be too long.
+/// The most bytes of a line that are kept, so that a line without end takes no more memory than this. They are 200,
+/// which is `MOST_BYTES_OF_A_LINE`, one for a carriage return, and one that shows that the line is too long.
 const KEPT: usize = 202;
 
 /// Cuts bytes into lines, however they come in blocks.
 ///
-/// Contracts see the line that has no line feed yet, as far as it is kept, and the bytes that were not looked at.
+/// Contracts see the line that has no line feed yet, as far as it is kept, and the bytes that were not cut yet.
 #[derive(Drop)]
 pub struct LineSplitter {
     alloc: Global,
+    /// The bytes of a line whose line feed has not come yet, `KEPT` at most.
     line: Vec<u8>,
+    /// The bytes that have come and were not cut yet.
     unread: Vec<u8>,
 }
 
@@ -44,9 +49,9 @@ impl LineSplitter {
         }
     }
 
-    /// Adds bytes that have come.
+    /// Appends bytes that have come. They are not cut yet.
     ///
-    /// Its error is that memory was refused.
+    /// Fails if memory is refused.
     pub fn push(&mut self, bytes: &[u8]) -> Result<(), AllocError>
         ensures unread { OnOk result (self.new.unread ≡ self.old.unread ++ bytes.now) }
         ensures line { self.new.line ≡ self.old.line }
@@ -54,14 +59,14 @@ impl LineSplitter {
         self.unread.extend_from_slice(bytes)
     }
 
-    /// Returns true if all bytes that have come were looked at.
+    /// Returns true if all bytes that have come were cut. A last line that lacks its line feed may still be kept.
     pub fn is_empty(&self) -> bool
         ensures { result ≡ is_empty self.now }
     {
         self.unread.is_empty()
     }
 
-    /// Adds the first `count` unread bytes to the line, as far as they are kept.
+    /// Appends the first `count` unread bytes to the line, as far as it has room for them. They stay unread.
     fn keep(&mut self, count: usize) -> Result<(), AllocError>
         ensures line { OnOk result (self.new.line ≡ kept self.old.line self.old.unread count) }
         ensures unread { self.new.unread ≡ self.old.unread }
@@ -71,11 +76,12 @@ impl LineSplitter {
             .unread
             .as_slice()
             .get(..room)
+            // `count` is at most the length of `unread`, so there are `room` bytes.
             .unwrap_or(self.unread.as_slice());
         self.line.extend_from_slice(more)
     }
 
-    /// Takes the line, without the carriage return at its end. A new one begins.
+    /// Returns the kept line, without the carriage return at its end, and begins a new one.
     fn take_line(&mut self) -> Result<Vec<u8>, AllocError>
         ensures line { IfOk result (λ line. line.items ≡ trimmed self.old.line) }
         ensures left { OnOk result (self.new.line ≡ []) }
@@ -86,7 +92,8 @@ impl LineSplitter {
         Ok(line)
     }
 
-    /// Cuts at the first line feed, if there is one. If not, all bytes are those of a line that goes on.
+    /// Returns the line up to the first line feed. Returns None if no line feed has come: then all bytes are a part of
+    /// a line that goes on.
     fn cut(&mut self) -> Result<Option<Vec<u8>>, AllocError>
         ensures line { IfOk result (λ line. option_map (λ v. v.items) line ≡ first_line self.old) }
         ensures left { OnOk result (self.new ≡ behind_first self.old) }
@@ -95,6 +102,7 @@ impl LineSplitter {
         self.keep(end)?;
         if end < self.unread.len() {
             let line = self.take_line()?;
+            // Drops the line and its line feed.
             let _ = self.unread.drain(..=end);
             Ok(Some(line))
         } else {
@@ -103,10 +111,10 @@ impl LineSplitter {
         }
     }
 
-    /// Returns the next line that has its line feed, without that and the carriage return before it. Of a line that is
-    /// too long, no more than shows that it is. None if no line has ended.
+    /// Returns the next line that has its line feed, without that and without the carriage return before it. None if no
+    /// line has ended. A line that is too long is cut, and what is returned is still too long.
     ///
-    /// Its error is that memory was refused: then bytes may be lost.
+    /// Fails if memory is refused. Then bytes may be lost.
     #[tactic(auto, using(crate::proofs::Splitting::cut_takes))]
     pub fn next_line(&mut self) -> Result<Option<Vec<u8>>, AllocError>
         ensures { IfOk result (λ line. TakesLine (option_map (λ v. v.items) line) self.old self.new) }
@@ -114,9 +122,9 @@ impl LineSplitter {
         self.cut()
     }
 
-    /// Returns the last line, which lacks its line feed. None if there is none.
+    /// Returns the last line, which lacks its line feed, once nothing more comes. None if there is none.
     ///
-    /// Its error is that memory was refused.
+    /// Fails if memory is refused.
     pub fn last_line(&mut self) -> Result<Option<Vec<u8>>, AllocError>
         ensures line { IfOk result (λ line. option_map (λ v. v.items) line ≡ last_line self.old) }
         ensures left { OnOk result (self.new ≡ record self.old { line = [] }) }

@@ -1,4 +1,7 @@
-//! How the domains of a station have their children.
+//! The mode of each child of the station's domains, as sessions are told. `crates/smi_console/src/event_forwarder.rt`
+//! makes a `ChildState` whenever a mode changes, `service.rt` keeps the newest of each child, and `reply.rt` writes
+//! them as the answer to `modes`. docs/FORMATS.md, "Lines with a tag", fixes the lines; a screen's page reads their
+//! words too.
 
 ghost use Rattle.std.specs.Prelude.{◌≡◌, ◌==◌, ◌<◌, IfSome, OnOk, length};
 ghost use Rattle.std.specs.List.{position};
@@ -8,7 +11,7 @@ use crate::station_event::{object_name, push_called};
 use smi_tree::Tree;
 use std::alloc::AllocError;
 
-/// How a domain has a child.
+/// How a domain has a child (docs/PROTOCOL.md, "Commands at a domain").
 #[derive(Clone, Copy)]
 pub enum ChildMode {
     /// It does not hold the child.
@@ -21,9 +24,10 @@ pub enum ChildMode {
     Ignored,
 }
 
-/// A child, and how its domain has it.
+/// A child, and its mode.
 #[derive(Clone, Copy)]
 pub struct ChildState {
+    /// The number of the child, a domain, from 1.
     pub child: u16,
     pub mode: ChildMode,
 }
@@ -40,9 +44,9 @@ fn word_of(mode: ChildMode) -> &'static [u8]
     }
 }
 
-/// Puts the line of a child's mode into a text, in place of what was there.
+/// Writes the line of a child's mode in place of what the text had: `mode TRK manual`, with a line feed.
 ///
-/// Its error is that memory was refused.
+/// Fails if memory is refused.
 pub(crate) fn write_mode(
     text: &mut Vec<u8>,
     tree: &Tree,
@@ -59,7 +63,7 @@ pub(crate) fn write_mode(
     Ok(())
 }
 
-/// Returns the place of a child among others.
+/// Returns the index of a child among these. None if it is not among them.
 #[tactic(auto, using(crate::proofs::Willing::child_within))]
 pub(crate) fn place_of_child(states: &[ChildState], child: u16) -> Option<usize>
     ensures place { result ≡ position (λ other. other.child == child) states.now }

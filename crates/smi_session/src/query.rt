@@ -1,4 +1,5 @@
-//! What a line asks of the whole node.
+//! Parses queries: the lines that ask something of the whole node, as `states` or `under way`. `request.rt` calls
+//! `query_in`, and `reply.rt` answers them. docs/FORMATS.md, "Lines with a tag", has each query and its answer.
 
 ghost use Rattle.std.specs.Prelude.{◌≡◌, is_none};
 ghost use Rattle.smi_tree.specs.Text.{words};
@@ -6,28 +7,29 @@ ghost use Rattle.smi_session.specs.Query as spec;
 
 use smi_tree::{Fault, first_word};
 
-/// What a line asks of the whole node.
+/// A query: what a line asks of the whole node.
 #[derive(Clone, Copy)]
 pub enum Query {
-    /// The numbers of the node.
+    /// `counts`: what the node has counted since it began.
     Counts,
-    /// The orders that are pending.
+    /// `under way`: the orders that are not answered yet.
     UnderWay,
-    /// The newest state of each object that the node keeps or watches.
+    /// `states`: the newest state of each object that the station keeps or watches.
     States,
-    /// These states, and each later one: of the objects that are named, or of all if none is.
+    /// `follow`: these states and each later one, of the objects that are named, or of all if none is.
     Follow,
-    /// Each action of operators at devices: at those that are named, or at all if none is.
+    /// `actions`: each action that is done at a device from now on, at the devices that are named, or at all if none
+    /// is.
     Actions,
-    /// How the domains of the node have their children.
+    /// `modes`: the mode of each child of the station's domains.
     Modes,
-    /// The version of the program.
+    /// `version`: the version of the program.
     Version,
-    /// What a line may ask.
+    /// `help`: what a line may ask.
     Help,
 }
 
-/// Returns the query that begins with this word.
+/// Returns the query that begins with this word. None if no query does.
 pub(crate) fn query_named(word: &[u8]) -> Option<Query>
     ensures { result ≡ spec.query_named word.now }
 {
@@ -59,7 +61,7 @@ fn has_no_words(text: &[u8]) -> bool
     first_word(text).is_none()
 }
 
-/// Returns true if `way` is the only word of a text.
+/// Returns true if `way` is the only word of a text, which is what follows `under`.
 fn is_way(text: &[u8]) -> bool
     ensures { result ≡ spec.are_way (words text.now) }
 {
@@ -69,7 +71,8 @@ fn is_way(text: &[u8]) -> bool
     }
 }
 
-/// Returns whether words begin with `--with numbers`, and the words behind that, or all of them.
+/// Returns true and the words after `--with numbers`, if a text begins with these two words. Returns false and the
+/// whole text if not.
 pub(crate) fn numbers_in(text: &[u8]) -> (bool, &[u8])
     ensures { (result.0, words result.1.now) ≡ spec.numbers_in (words text.now) }
 {
@@ -86,7 +89,7 @@ pub(crate) fn numbers_in(text: &[u8]) -> (bool, &[u8])
     }
 }
 
-/// Returns true if a query may have these further words.
+/// Returns true if a query may have these words after its first one. Whether they name anything is tested later.
 fn may_have(query: Query, text: &[u8]) -> bool
     ensures { result ≡ spec.may_have query (words text.now) }
 {
@@ -99,9 +102,9 @@ fn may_have(query: Query, text: &[u8]) -> bool
     }
 }
 
-/// Returns what the words of a line ask of the whole node. None if they are another line, or no words.
+/// Returns the query that a line is. None if it is another line, or has no words.
 ///
-/// Its error is that there are too many words, or too few.
+/// Its fault is a word count, if it has too many words or too few.
 pub fn query_in(text: &[u8]) -> Result<Option<Query>, Fault>
     ensures { result ≡ spec.query_in (words text.now) }
 {

@@ -1,4 +1,7 @@
-//! What a session is told: how its orders ended, and what it asks of the whole node.
+//! Writes what sessions are told: how their orders ended, and the answers to queries. `service.rt` calls `answer_query`
+//! and `write_told`. docs/FORMATS.md, "A node's lines" and "Lines with a tag", fixes every line; `tools/lunskaf.py` and
+//! a screen's relay read them. The text of each answer but `counts` and `help` is proved to be `Answers`
+//! (`specs/Reply`).
 
 ghost use Rattle.std.specs.Prelude.{◌≡◌, OnOk, IfOk, codes, length, option_map};
 ghost use Rattle.smi_tree.specs.Hierarchy.{entry};
@@ -28,10 +31,12 @@ use std::collections::VecDeque;
 use std::io::Write;
 use std::time::Instant;
 
-/// The line that tells the version of the program, as CHANGELOG.md has it.
+/// The reply to `version`: the version of the program. It has to be that of CHANGELOG.md, of `specs/Reply`, and of
+/// `write_tree` in `crates/smi_web/src/tree_json.rt`.
 const VERSION: &[u8] = b"version 0.9\n";
 
-/// What a line may ask, a line each, with its line feed.
+/// The reply to `help`: each line that a client may type, with a line feed. A line that is added to docs/FORMATS.md, "A
+/// node's lines", belongs here too; nothing proves that.
 const HELP: [&str; 17] = [
     "help order OPERATOR take|drop|ask DOMAIN\n",
     "help order OPERATOR do DOMAIN ACTION\n",
@@ -52,7 +57,7 @@ const HELP: [&str; 17] = [
     "help @TAG LINE -- any of these at once, its answers behind the tag\n",
 ];
 
-/// Returns the name of an operator, by its number.
+/// Returns the name of an operator by its number, from 1. None if the tree has no such operator.
 fn operator_name(tree: &Tree, number: u16) -> Option<&[u8]>
     ensures { option_map (λ n. n.now) result ≡ entry tree.now.operator_names number }
 {
@@ -63,7 +68,8 @@ fn operator_name(tree: &Tree, number: u16) -> Option<&[u8]>
     }
 }
 
-/// Puts the line of a question that another one of its operator has replaced into a text.
+/// Writes the answer to a question that a newer one of its operator has replaced, in place of what the text had:
+/// `replaced ANN ask TPC`, with a line feed.
 fn write_replaced(
     text: &mut Vec<u8>,
     tree: &Tree,
@@ -81,7 +87,7 @@ fn write_replaced(
     Ok(())
 }
 
-/// Puts how an order of an operator ended into a text, in place of what was there.
+/// Writes how an order of an operator ended, in place of what the text had: `told ANN take DCS 0`, with a line feed.
 fn write_ending(
     text: &mut Vec<u8>,
     tree: &Tree,
@@ -96,10 +102,10 @@ fn write_ending(
     }
 }
 
-/// Puts how an order of an operator ended into a text, in place of what was there; or how a report did, which is
-/// nobody's.
+/// Writes how an order ended, in place of what the text had: `told ANN take DCS 0`; or of a report, which is nobody's,
+/// a line as `told report DEVICE STATE CODE`.
 ///
-/// Its error is that memory was refused.
+/// Fails if memory is refused.
 pub(crate) fn write_told(
     text: &mut Vec<u8>,
     tree: &Tree,
@@ -114,7 +120,7 @@ pub(crate) fn write_told(
     }
 }
 
-/// Returns how many whole seconds have passed since an order was given, 0 if the clock could not be read.
+/// Returns how many whole seconds have passed since an order was given, or 0 if the clock could not be read.
 fn seconds_since(now: Option<Instant>, since: Option<Instant>) -> u64
     ensures { result ≡ spec.seconds_since now since }
 {
@@ -124,7 +130,7 @@ fn seconds_since(now: Option<Instant>, since: Option<Instant>) -> u64
     }
 }
 
-/// Tells a session a line that counts what stood before it.
+/// Pushes the last line of a list to a session: what was listed, and how many lines that were, as `states 12`.
 fn push_count(
     text: &mut Vec<u8>,
     session: &mut Session,
@@ -139,21 +145,23 @@ fn push_count(
     text.extend_from_slice(what)?;
     match writeln!(text, " {count}") {
         Ok(()) => session.push_reply(tag, text.as_slice()),
+        // Writing into a Vec fails only if memory is refused.
         Err(_) => Err(AllocError),
     }
 }
 
-/// Tells a session the version of the program.
+/// Pushes the version of the program to a session.
 fn push_version(session: &mut Session, tag: Option<Tag>) -> Result<(), AllocError>
     ensures { OnOk result (session.new ≡ spec.with_version tag session.old) }
 {
     session.push_reply(tag, VERSION)
 }
 
-/// Adds how many datagrams the system has dropped to the line of a node's numbers.
+/// Appends ` dropped N` to the line of `counts`. Appends nothing if the system does not tell how many it has dropped.
 fn push_drops(text: &mut Vec<u8>, drops: Option<u64>) -> Result<(), AllocError> {
     match drops {
         Some(drops) => {
+            // Takes the line feed off, so that the number is in the same line.
             let _ = text.pop();
             writeln!(text, " dropped {drops}").map_err(|_| AllocError)
         }
@@ -161,7 +169,8 @@ fn push_drops(text: &mut Vec<u8>, drops: Option<u64>) -> Result<(), AllocError> 
     }
 }
 
-/// Lists the orders that are under way at an operator's seat, a line each.
+/// Pushes a line `way OPERATOR ORDER SECONDS` for each order that is pending at an operator's seat. `listed` is the
+/// operator and the queue of the seat.
 fn push_pending(
     text: &mut Vec<u8>,
     tree: &Tree,
@@ -182,7 +191,8 @@ fn push_pending(
     Ok(())
 }
 
-/// Lists the orders of a queue that are under way, and returns how many they are. Reports are not listed.
+/// Pushes a line for each order that is pending at a queue, and returns how many these are. Of the queue for reports it
+/// pushes none, and returns 0.
 fn push_queue(
     text: &mut Vec<u8>,
     tree: &Tree,
@@ -202,7 +212,7 @@ fn push_queue(
     Ok(queue.pending().len())
 }
 
-/// Lists the orders of seats that are under way, and returns how many they are.
+/// Pushes a line for each order that is pending at these queues, and returns how many these are.
 fn push_queues(
     text: &mut Vec<u8>,
     tree: &Tree,
@@ -222,7 +232,7 @@ fn push_queues(
     Ok(count)
 }
 
-/// Lists an order that waits for a seat, and returns how many that are: one, or none if it is a report.
+/// Pushes the line of an order that waits for a seat, and returns 1. Of a report it pushes none, and returns 0.
 fn push_held_one(
     text: &mut Vec<u8>,
     tree: &Tree,
@@ -246,7 +256,8 @@ fn push_held_one(
     }
 }
 
-/// Lists the orders that wait for a seat, and returns this many and how many they are.
+/// Pushes a line for each order that waits for a seat. `listed` is a count so far and these orders; returns the count
+/// with theirs added.
 fn push_held(
     text: &mut Vec<u8>,
     tree: &Tree,
@@ -267,7 +278,8 @@ fn push_held(
     Ok(count)
 }
 
-/// Lists the orders of operators that are under way, a line each, and at the end how many they are.
+/// Pushes the answer to `under way`: a line for each order of an operator that is not answered yet, and at the end how
+/// many they are.
 fn push_under_way(
     text: &mut Vec<u8>,
     tree: &Tree,
@@ -283,7 +295,7 @@ fn push_under_way(
     push_count(text, session, tag, b"under way", count)
 }
 
-/// Tells a session the newest state of an object, if one is known. Returns how many that are: one or none.
+/// Pushes the newest state of an object, as `board TPC 1.7 READY`, and returns 1. Returns 0 if no state of it is known.
 fn push_state(
     text: &mut Vec<u8>,
     tree: &Tree,
@@ -305,7 +317,7 @@ fn push_state(
     }
 }
 
-/// Lists the newest states, a line each, and at the end how many they are.
+/// Pushes the answer to `states`: the newest state of each object by number, and at the end how many they are.
 fn push_states(
     text: &mut Vec<u8>,
     tree: &Tree,
@@ -326,7 +338,7 @@ fn push_states(
     push_count(text, session, tag, b"states", count)
 }
 
-/// Tells a session the newest state of each object that it follows.
+/// Pushes the newest state of each object that the session follows, after the tag of its `follow`.
 fn push_followed(
     text: &mut Vec<u8>,
     tree: &Tree,
@@ -339,13 +351,14 @@ fn push_followed(
         let object = place + 1;
         if let Some(tag) = session.state_tag(object) {
             let seen = picture.object(usize::from(object));
+            // `follow` prints no count.
             let _ = push_state(text, tree, session, tag, object, seen)?;
         }
     }
     Ok(())
 }
 
-/// Lists how the domains of a node have their children, a line each, and at the end how many they are.
+/// Pushes the answer to `modes`: a line for each child, and at the end how many they are.
 fn push_modes(
     text: &mut Vec<u8>,
     tree: &Tree,
@@ -363,7 +376,7 @@ fn push_modes(
     push_count(text, session, tag, b"modes", states.len())
 }
 
-/// Lists what a line may ask, and at the end how many lines that were.
+/// Pushes the answer to `help`: the lines of `HELP`, and at the end how many they are.
 fn push_help(text: &mut Vec<u8>, session: &mut Session, tag: Option<Tag>) -> Result<(), AllocError>
     ensures { OnlyReplies session.old session.new }
 {
@@ -373,7 +386,7 @@ fn push_help(text: &mut Vec<u8>, session: &mut Session, tag: Option<Tag>) -> Res
     push_count(text, session, tag, b"help", HELP.len())
 }
 
-/// Returns at how many devices a subscription follows actions.
+/// Returns how many devices a subscription to actions names: all of the tree if it names none.
 fn followed_count(tree: &Tree, subscription: &Subscription) -> usize
     ensures { result ≡ spec.followed_count tree.now subscription.now.objects }
 {
@@ -388,9 +401,9 @@ impl<G: StateReader + Drop> SessionService<G> {
     ghost use Rattle.smi_tree.specs.Text.{words};
     ghost use Rattle.smi_session.specs.Reply.{Answers};
 
-    /// Tells a session what its line asks of the whole node.
+    /// Pushes the answer to a query to the session that asked. `follow` and `actions` also subscribe the session.
     ///
-    /// Its error is that memory was refused to the output of the session.
+    /// Fails if memory is refused to the session's output.
     pub(crate) fn answer_query(
         &mut self,
         tree: &Tree,

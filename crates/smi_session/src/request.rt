@@ -1,4 +1,6 @@
-//! What a line asks.
+//! Says what a line asks, whichever kind of line it is. `service.rt` calls `request_of_line` for each line and does
+//! what it returns. docs/FORMATS.md, "A node's lines", fixes which lines there are, and their faults: a client sees any
+//! change here.
 
 ghost use Rattle.std.specs.Prelude.{◌≡◌, is_some};
 ghost use Rattle.smi_tree.specs.Text.{words};
@@ -12,22 +14,23 @@ use smi_base::MOST_BYTES_OF_A_LINE;
 use smi_protocol::Order;
 use smi_tree::{Fault, Tree, first_word};
 
-/// What a line asks.
+/// What a line asks. `service.rt` does it.
 #[derive(Clone, Copy)]
 pub enum SessionRequest {
-    /// An order of an operator. A report is nobody's.
+    /// An order, and the operator who gives it. The operator of a report is None, because a report is nobody's.
     Order(Option<u16>, Order),
-    /// What the board shows of an object.
+    /// `show`: the state that the board shows of an object, by its number.
     Show(u16),
-    /// Something of the whole node.
+    /// A query of the whole node.
     Query(Query),
-    /// What the node reports when the session ends: the state of a device.
+    /// `will`: the state of a device that the node reports when the session ends.
     Will(DeviceWill),
-    /// To take back an order of the session that waits for a seat.
+    /// `withdraw`: to take back an order of the session that waits for a seat. The line has the tag of that order.
     Withdraw,
 }
 
-/// Returns true if a line may ask of the whole node, with a tag or without one.
+/// Returns true if a line may be a query. A script's line without a tag may not be one, because each of its lines has
+/// one line for an answer.
 fn may_query(style: ReplyStyle, has_tag: bool) -> bool
     ensures { result ≡ spec.may_query style has_tag }
 {
@@ -37,7 +40,8 @@ fn may_query(style: ReplyStyle, has_tag: bool) -> bool
     }
 }
 
-/// Returns what a line asks of the whole node, if it may ask so.
+/// Returns the query that a line is. None if it is no query, may not be one here, or is too long: then `request_in`
+/// finds the fault.
 fn query_of(style: ReplyStyle, has_tag: bool, text: &[u8]) -> Result<Option<Query>, Fault>
     ensures { result ≡ spec.query_of style has_tag text.now }
 {
@@ -48,7 +52,7 @@ fn query_of(style: ReplyStyle, has_tag: bool, text: &[u8]) -> Result<Option<Quer
     }
 }
 
-/// Returns true if a query may name this: `follow` any object, `actions` a device.
+/// Returns true if a query may name this: `follow` a domain or a device, `actions` a device, and any other nothing.
 fn may_name(tree: &Tree, query: Query, name: &[u8]) -> bool
     ensures { result ≡ spec.may_name tree.now query name.now }
 {
@@ -64,7 +68,7 @@ fn may_name(tree: &Tree, query: Query, name: &[u8]) -> bool
     }
 }
 
-/// Returns true if a query may name all these words.
+/// Returns true if a query may name each word of a text.
 fn may_name_all(tree: &Tree, query: Query, text: &[u8]) -> bool
     ensures { result ≡ spec.may_name_all tree.now query (words text.now) }
 {
@@ -78,7 +82,7 @@ fn may_name_all(tree: &Tree, query: Query, text: &[u8]) -> bool
     true
 }
 
-/// Returns what follows the first word of a text.
+/// Returns what follows the first word of a text, or the text if it has no words.
 pub(crate) fn behind_first(text: &[u8]) -> &[u8]
     ensures { words result.now ≡ spec.behind_first (words text.now) }
 {
@@ -88,7 +92,7 @@ pub(crate) fn behind_first(text: &[u8]) -> &[u8]
     }
 }
 
-/// Returns a query with these names. A name that it may not have is a fault.
+/// Returns the request of a query with these names. Its fault is an unknown name, if it may not have one of them.
 fn named_request(tree: &Tree, query: Query, names: &[u8]) -> Result<SessionRequest, Fault>
     ensures { result ≡ spec.named_request tree.now query (words names.now) }
 {
@@ -99,7 +103,7 @@ fn named_request(tree: &Tree, query: Query, names: &[u8]) -> Result<SessionReque
     }
 }
 
-/// Returns what a line asks that is a query.
+/// Returns the request of a line that is this query. Its fault is an unknown name.
 fn query_request(tree: &Tree, query: Query, text: &[u8]) -> Result<SessionRequest, Fault>
     ensures { result ≡ spec.query_request tree.now query (words text.now) }
 {
@@ -118,7 +122,7 @@ fn query_request(tree: &Tree, query: Query, text: &[u8]) -> Result<SessionReques
     }
 }
 
-/// Returns what a line asks that is no query. A line that asks nothing has a fault if it has a tag.
+/// Returns the request of a line that is no query. A line that asks nothing, as a comment, has a fault if it has a tag.
 fn line_request(
     has_tag: bool,
     request: Option<SessionRequest>,

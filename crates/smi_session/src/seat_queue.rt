@@ -1,4 +1,6 @@
-//! A seat, and the orders given there that are not answered yet.
+//! A seat of an operator with the orders that were submitted there and are not answered yet. `seat_table.rt` has one
+//! for each seat. That the oldest of these orders is the one that the next answer is of (`IsInStep`) is what gives each
+//! answer to the session that gave its order.
 
 use crate::lane::{Lane, are_of_one_domain, is_further, is_same_operator};
 use crate::tag::Tag;
@@ -9,18 +11,21 @@ use std::collections::VecDeque;
 use std::marker::Model;
 use std::time::Instant;
 
-/// The most orders of one seat that are not answered yet. The ring of a seat has room for as many.
+/// The most orders of one seat that are not answered yet. The rings of a seat have room for this many (`RING` in
+/// `crates/smi_operator/src/meeting.rt`), so an order that fits here fits there. `smi_console` also takes this many
+/// answers of a seat in one round.
 pub const MOST_PENDING: usize = 16;
 
 /// An order that is not answered yet.
 #[derive(Clone, Copy)]
 pub struct PendingOrder {
-    /// The number of the session that gave it.
+    /// The number of the session that gave it: 0 for the standard input, from 1000 on for connections.
     pub session: u64,
-    /// The tag of its line, if that has one.
+    /// The tag of its line. None if the line has no tag.
     pub tag: Option<Tag>,
+    /// What is ordered.
     pub order: Order,
-    /// When it was given. None if the clock could not be read.
+    /// When the session gave it. None if the clock could not be read. It is only told by `under way`.
     pub since: Option<Instant>,
 }
 
@@ -28,7 +33,7 @@ impl PendingOrder {
     ghost use Rattle.std.specs.Prelude.{◌≡◌};
     ghost use Rattle.smi_session.specs.Withdrawal.{is_of};
 
-    /// Returns true if a line of this session and tag gave it.
+    /// Returns true if a line of this session with this tag gave it.
     pub(crate) fn is_of(&self, session: u64, tag: &[u8]) -> bool
         ensures { result ≡ is_of session tag.now self.now }
     {
@@ -44,7 +49,9 @@ impl PendingOrder {
 /// Contracts see the operator, the lane, the seat and these orders.
 #[derive(Drop)]
 pub struct SeatQueue {
+    /// The operator of the seat, by number. None for the seat of reports, which is nobody's.
     operator: Option<u16>,
+    /// Which orders the seat takes.
     lane: Lane,
     seat: Seat,
     pending: VecDeque<PendingOrder>,
@@ -73,7 +80,7 @@ impl SeatQueue {
 
     /// Makes the queue of an operator's seat, or of nobody's, at which nothing is pending.
     ///
-    /// Its error is that memory was refused. No clause names `alloc`, from which memory comes.
+    /// Fails if memory is refused. No clause names `alloc`, from which memory comes.
     pub fn new(
         alloc: Global,
         operator: Option<u16>,
@@ -130,14 +137,14 @@ impl SeatQueue {
             .any(|pending| pending.is_of(session, tag))
     }
 
-    /// Returns true if an order about the same domain as this one, and of the same operator, is pending.
+    /// Returns true if an order of this operator about the same domain as this order is pending.
     pub(crate) fn is_about(&self, operator: Option<u16>, order: Order) -> bool
         ensures { result ≡ is_about operator order self.now }
     {
         is_same_operator(self.operator, operator) && self.has_about(order)
     }
 
-    /// Returns true if an order about the same domain as this one is pending.
+    /// Returns true if an order about the same domain as this order is pending.
     fn has_about(&self, order: Order) -> bool
         ensures { result ≡ list_any (λ p. are_of_one_domain p.order order) self.now.pending }
     {
@@ -146,7 +153,8 @@ impl SeatQueue {
             .any(|pending| are_of_one_domain(pending.order, order))
     }
 
-    /// Returns true if an order about the same domain is pending, and the station takes this one beside it.
+    /// Returns true if an order of this operator about the same domain is pending, and the station takes this one
+    /// beside those that are pending, because all are commands.
     pub(crate) fn joins(&self, operator: Option<u16>, order: Order) -> bool
         ensures { result ≡ joins operator order self.now }
     {
@@ -160,16 +168,17 @@ impl SeatQueue {
         is_same_operator(self.operator, operator) && self.lane.takes(order)
     }
 
-    /// Returns true if its lane takes such an order of this operator, and none is pending that would hold it up.
+    /// Returns true if the seat is this operator's, its lane takes the order, and no order is pending that would hold
+    /// it up.
     pub(crate) fn may_take(&self, operator: Option<u16>, order: Order) -> bool
         ensures { result ≡ may_take operator order self.now }
     {
         self.takes(operator, order) && (self.lane.is_shared() || self.pending.is_empty())
     }
 
-    /// Submits an order. Hands it back if the seat is full: then all is as before.
+    /// Submits an order. Returns it if the seat is full, and changes nothing then.
     ///
-    /// The first 16 orders of a seat always fit.
+    /// A seat that was never used has room for sixteen orders.
     pub fn give(&mut self, pending: PendingOrder) -> Result<(), PendingOrder>
         ensures given { OnOk result (Submits pending self.old self.new) }
         ensures back { IfErr result (λ back. back ≡ pending) }
@@ -186,12 +195,13 @@ impl SeatQueue {
                 self.pending.push_back_reserved(pending);
                 Ok(())
             }
+            // The ring is full. The order that it hands back has no session, so the pending order is returned.
             Err(_) => Err(pending),
         }
     }
 
-    /// Returns the next answer of the seat, with the oldest pending order, which is the one that it is of. None if
-    /// there is no answer yet.
+    /// Returns the next answer of the seat, and the oldest pending order, whose answer it is. None if there is no
+    /// answer yet.
     pub fn next_answer(&mut self) -> Option<(PendingOrder, Told)>
         ensures some { IfSome result (λ r. TellsOldest r.0 r.1 self.old self.new) }
         ensures none { IfNone result (Keeps self.old self.new) }
@@ -201,6 +211,7 @@ impl SeatQueue {
         // The order is looked for first, because an answer that was taken without one could not be told to anybody.
         let oldest = *self.pending.front()?;
         let told = self.seat.told()?;
+        // The same order as `oldest`.
         let _ = self.pending.pop_front();
         Some((oldest, told))
     }

@@ -1,4 +1,6 @@
-//! The seats of a station, each with its queue.
+//! All seats of a station with their queues, and the orders that wait for a seat. `service.rt` gives orders to it and
+//! takes answers from it. Which seat is whose, and in which order the orders of an operator go, is decided here:
+//! docs/PROTOCOL.md, "Seats and the desk", and docs/FORMATS.md, "Orders of one operator", promise it.
 
 ghost use Rattle.std.specs.Prelude.{◌≡◌, ◌==◌, ◌<◌, ◌++◌, ◌∷◌, [], IfSome, OnOk, drop, length, take};
 ghost use Rattle.std.proofs.Common.{deque_capacity};
@@ -21,26 +23,30 @@ use std::collections::VecDeque;
 use std::marker::Model;
 use std::time::Instant;
 
-/// The most orders that wait for a seat. Then their sessions keep further ones.
+/// The most orders that wait for a seat in the table. A further one is kept by its session, of which then no line is
+/// taken (docs/FORMATS.md, "Lines with a tag"). `specs/SeatTable` and the invariant below have the number too.
 const MOST_HELD: usize = 256;
 
-/// The queues of a station's seats: seven for each of its operators, in their order, and last the one for reports,
-/// which is nobody's.
+/// The queues of a station's seats: seven for each of its operators, in the order of the operators, and last the one
+/// for reports, which is nobody's.
 ///
 /// An order goes to an idle seat of its operator, or as a further command to the seat at which commands on its domain
-/// are pending. Else it waits: so an order that is not answered for long holds up those about its own domain, and no
-/// other as long as fewer than four domains have one. No order overtakes another of its operator about the same domain:
-/// it waits while such a one does, and after each answer those that wait have their turn, the oldest first. An order
-/// that waits can be taken back.
+/// are pending. Otherwise it waits. So an order that is not answered for long holds up those about its own domain, and
+/// no other as long as fewer than four domains have one. No order overtakes another of its operator about the same
+/// domain: it waits while such a one does. After each answer those that wait have their turn, the oldest first. An
+/// order that waits can be taken back.
 ///
-/// Contracts see the operators by seat, the queues, the orders that wait for a seat, and whether an order was given
+/// Contracts see the operators by seat, the queues, the orders that wait for a seat, and whether an order was submitted
 /// since that was last asked.
 #[derive(Drop)]
 pub struct SeatTable {
+    /// The operator of each queue but the last, by number. Each operator is in it seven times.
     operators: Vec<u16>,
+    /// The queues of the operators' seats, and last the one for reports.
     queues: Vec<SeatQueue>,
     /// The orders that wait for a seat, the oldest first.
     held: VecDeque<Deferred>,
+    /// True if an order was submitted since `has_given` was called last.
     has_given: bool,
 }
 
@@ -61,19 +67,20 @@ impl Model for SeatTable {
     ghost invariant = { λ t. AreQueuesOf t.operators.items t.queues.items × (256 ≤ deque_capacity t.held) };
 }
 
-/// An answer of a seat.
+/// An answer of a seat, and the order that it answers.
 #[derive(Clone, Copy)]
 pub struct SeatAnswer {
-    /// The order that it is of, with the number of its session and the tag of its line.
+    /// The order that is answered, with the number of its session and the tag of its line.
     pub pending: PendingOrder,
     /// The operator who ordered. None for a report.
     pub operator: Option<u16>,
+    /// How the order ended, as the station tells it.
     pub told: Told,
 }
 
-/// Adds the queue of a seat, at which nothing is pending.
+/// Appends the queue of a seat, at which nothing is pending.
 ///
-/// Its error is that memory was refused.
+/// Fails if memory is refused.
 fn add_queue(
     alloc: Global,
     queues: &mut Vec<SeatQueue>,
@@ -88,14 +95,15 @@ fn add_queue(
     Ok(())
 }
 
-/// Returns true if an order about the same domain is pending at one of these queues.
+/// Returns true if an order of this operator about the same domain is pending at one of these queues.
 fn any_about(queues: &[SeatQueue], operator: Option<u16>, order: Order) -> bool
     ensures { result ≡ list_any (is_about operator order) queues.now }
 {
     queues.iter().any(|queue| queue.is_about(operator, order))
 }
 
-/// Returns the place of the first queue at which an order about the same domain is pending, and this one joins it.
+/// Returns the index of the first queue at which an order of this operator about the same domain is pending, and this
+/// one may join it.
 #[tactic(auto, using(crate::proofs::Seating::within_of))]
 fn place_joined(queues: &[SeatQueue], operator: Option<u16>, order: Order) -> Option<usize>
     ensures place { result ≡ position (joins operator order) queues.now }
@@ -104,7 +112,7 @@ fn place_joined(queues: &[SeatQueue], operator: Option<u16>, order: Order) -> Op
     queues.iter().position(|queue| queue.joins(operator, order))
 }
 
-/// Returns the place of the first queue that may take an order.
+/// Returns the index of the first queue that may take an order now. None if it has to wait.
 #[tactic(auto, using(crate::proofs::Seating::within_of))]
 fn place_free(queues: &[SeatQueue], operator: Option<u16>, order: Order) -> Option<usize>
     ensures place { result ≡ position (may_take operator order) queues.now }
@@ -115,7 +123,7 @@ fn place_free(queues: &[SeatQueue], operator: Option<u16>, order: Order) -> Opti
         .position(|queue| queue.may_take(operator, order))
 }
 
-/// Returns true if one of these queues takes such an order.
+/// Returns true if one of these queues takes such an order of this operator, now or later.
 fn any_takes(queues: &[SeatQueue], operator: Option<u16>, order: Order) -> bool
     ensures { result ≡ list_any (takes_of operator order) queues.now }
 {
@@ -143,7 +151,7 @@ fn have_order(queues: &[SeatQueue], session: u64, tag: &[u8]) -> bool
     queues.iter().any(|queue| queue.has_order(session, tag))
 }
 
-/// Returns the place of the oldest of these orders that is of this session and tag.
+/// Returns the index of the oldest of these orders that is of this session and tag.
 #[tactic(auto, using(crate::proofs::Willing::waits_within))]
 fn place_of(held: &VecDeque<Deferred>, session: u64, tag: &[u8]) -> Option<usize>
     ensures place { result ≡ position (waits_of session tag.now) held.now.items }
@@ -179,11 +187,11 @@ impl SeatTable {
     ghost use Rattle.smi_session.specs.Withdrawal.{TakesBack, withdrawal_of};
     ghost use Rattle.smi_session.specs.Session.{beginning};
 
-    /// Opens the seats of operators by seat: each gets the seats at the operator's places, as far as there are both,
-    /// and the last one is for reports. Of each seven seats from the first four are for orders, one is for watches, and
-    /// two are for questions.
+    /// Opens a table over these seats. The seat at an index is that of the operator at the same index of `operators`,
+    /// which has each operator seven times in a row; the shorter of both lists counts. `reports` is the seat for
+    /// reports, and comes last.
     ///
-    /// Its error is that memory was refused. No clause names `alloc`, from which memory comes.
+    /// Fails if memory is refused. No clause names `alloc`, from which memory comes.
     pub fn open(
         alloc: Global,
         operators: &[u16],
@@ -211,7 +219,7 @@ impl SeatTable {
         })
     }
 
-    /// Returns the operators by seat.
+    /// Returns the operator of each seat but the last one.
     pub fn operators(&self) -> &[u16]
         ensures { result.now ≡ self.now.operators }
     {
@@ -246,7 +254,7 @@ impl SeatTable {
         have_pending(self.queues.as_slice(), session) || are_of(&self.held, session)
     }
 
-    /// Returns what would become of an order of this session and tag if it were taken back.
+    /// Returns what would become of the order of this session and tag if it were taken back now.
     pub(crate) fn withdrawal_of(&self, session: &Session, tag: &[u8]) -> Withdrawal
         ensures { result ≡ withdrawal_of tag.now self.now session.now }
     {
@@ -260,20 +268,23 @@ impl SeatTable {
         }
     }
 
-    /// Takes the oldest order of this session and tag back that waits for a seat, or that the session keeps.
+    /// Takes the oldest order of this session and tag back: out of those that wait for a seat, or from the session if
+    /// it keeps it. Changes nothing if there is none.
     pub(crate) fn take_back(&mut self, session: &mut Session, tag: &[u8])
         ensures { TakesBack tag.now self.old session.old self.new session.new }
     {
         match place_of(&self.held, session.number(), tag) {
             Some(place) => self.remove_held(place),
             None if session.has_deferred(tag) => {
+                // The order is dropped: it was given to nobody.
                 let _ = session.take_deferred();
             }
             None => {}
         }
     }
 
-    /// Returns true if an order was given since this was last asked: then the station has to look at its seats.
+    /// Returns true if an order was submitted since the last call. Then the caller has to wake the station, which looks
+    /// at its seats.
     pub fn has_given(&mut self) -> bool
         ensures asked { result ≡ self.old.has_given }
         ensures told { self.new ≡ record self.old { has_given = false } }
@@ -283,7 +294,7 @@ impl SeatTable {
         has_given
     }
 
-    /// Returns the place of the seat that takes an order now. None if the order has to wait for one.
+    /// Returns the index of the queue that takes an order now. None if the order has to wait.
     fn lane_of(&self, order: Deferred) -> Option<usize>
         ensures place { result ≡ lane_of self.now order }
         ensures within { IfSome result (λ place. place < length self.now.queues) }
@@ -299,11 +310,12 @@ impl SeatTable {
         if any_takes(queues, operator, pending.order) {
             None
         } else {
+            // No seat of an operator takes such an order, as a report: it goes to the last queue.
             Some(self.operators.len())
         }
     }
 
-    /// Submits an order where a seat takes it now. Returns false if none does, or it has no room.
+    /// Submits an order at the seat that takes it now. Returns false if no seat does, or the seat's ring is full.
     fn attempt(&mut self, order: Deferred) -> bool
         ensures { Attempts order self.old self.new result }
     {
@@ -313,13 +325,14 @@ impl SeatTable {
                     self.has_given = true;
                     true
                 }
+                // The caller still has the order.
                 Err(_) => false,
             },
             None => false,
         }
     }
 
-    /// Has an order wait for a seat. If too many do, its session keeps it as deferred.
+    /// Puts an order at the end of those that wait for a seat. If too many wait, its session keeps it as deferred.
     fn hold(&mut self, session: &mut Session, order: Deferred)
         ensures { WaitsUnless false order self.old session.old self.new session.new }
     {
@@ -330,8 +343,8 @@ impl SeatTable {
         }
     }
 
-    /// Submits an order if a seat takes it now, and none of the first `count` that wait is of the same operator and
-    /// about the same domain. Returns true if it did.
+    /// Submits an order if a seat takes it now, and none of the first `count` orders that wait is of the same operator
+    /// and about the same domain. Returns true if it was submitted.
     #[tactic(auto, using(crate::proofs::Changing::keeps_held))]
     fn attempt_after(&mut self, count: usize, order: Deferred) -> bool
         ensures attempts { AttemptsAfter (take count self.old.held) order self.old self.new result }
@@ -340,7 +353,7 @@ impl SeatTable {
         !has_earlier(&self.held, count, order) && self.attempt(order)
     }
 
-    /// Gives an order: at a seat that takes it now, or it waits for one.
+    /// Gives an order: submits it at a seat that takes it now, or has it wait for one.
     fn give(&mut self, session: &mut Session, order: Deferred)
         ensures { GivesIt order self.old session.old self.new session.new }
     {
@@ -350,7 +363,7 @@ impl SeatTable {
         }
     }
 
-    /// Returns the order at this place of those that wait, if there is one.
+    /// Returns the order at this index of those that wait, if there is one.
     fn held_at(&self, place: usize) -> Option<Deferred>
         ensures order { result ≡ slice_get self.now.held place }
         ensures within { IfSome result (λ order. place < length self.now.held) }
@@ -358,15 +371,16 @@ impl SeatTable {
         self.held.get(place).copied()
     }
 
-    /// Takes the order at this place out of those that wait.
+    /// Removes the order at this index of those that wait.
     fn remove_held(&mut self, place: usize)
         requires { place < length self.old.held }
         ensures { self.new ≡ record self.old { held = remove self.old.held place } }
     {
+        // The caller has a copy, or nobody wants it any more.
         let _ = self.held.remove(place);
     }
 
-    /// Submits the order at this place of those that wait, if a seat takes it now. Returns true if it was submitted.
+    /// Submits the order at this index of those that wait, if a seat takes it now. Returns true if it was submitted.
     fn give_at(&mut self, place: usize) -> bool
         ensures { GivesAtPlace place self.old self.new result }
     {
@@ -380,11 +394,12 @@ impl SeatTable {
         true
     }
 
-    /// Submits each order that waits, the oldest first, if a seat takes it now. The others wait in their order.
+    /// Submits each order that waits, the oldest first, if a seat takes it now. The others wait on in their order.
     fn give_held(&mut self)
         ensures { GivesHeld (length self.old.held) self.old self.new }
     {
         let mut place: usize = 0;
+        // One turn for each order. If an order is submitted, the next one gets its index.
         for _ in 0..self.held.len() {
             if !self.give_at(place) {
                 place += 1;
@@ -392,7 +407,7 @@ impl SeatTable {
         }
     }
 
-    /// Gives the order that a session keeps as deferred, if any.
+    /// Gives the order that a session keeps as deferred, if any. If there is still no room, the session keeps it again.
     pub fn give_deferred(&mut self, session: &mut Session)
         ensures { GivesDeferred self.old session.old self.new session.new }
     {
@@ -401,7 +416,8 @@ impl SeatTable {
         }
     }
 
-    /// Gives the order of a line: of an operator, or a report of nobody.
+    /// Gives the order of a line: of an operator, or a report of nobody. If its line has no tag, the session is busy
+    /// until the answer.
     pub fn order(
         &mut self,
         now: Option<Instant>,
@@ -423,9 +439,10 @@ impl SeatTable {
         self.give(session, Deferred { operator, pending });
     }
 
-    /// Reports a state of a device for a session that ends. The report waits for its seat, however many orders do.
+    /// Reports a state of a device for a session that ends. The report waits for its seat, however many orders wait:
+    /// the session can't keep it, because it ends.
     ///
-    /// Its error is that memory was refused: then it was not reported.
+    /// Fails if memory is refused. Then it was not reported.
     pub fn report(
         &mut self,
         now: Option<Instant>,
@@ -455,7 +472,7 @@ impl SeatTable {
 
     /// Reports all these states of devices for a session that ends, one after the other.
     ///
-    /// Its error is that memory was refused: then some are not reported.
+    /// Fails if memory is refused. Then some are not reported.
     pub fn report_all(
         &mut self,
         now: Option<Instant>,
@@ -470,7 +487,7 @@ impl SeatTable {
         Ok(())
     }
 
-    /// Returns the next answer of the seat at a place, from 0. None if there is no answer yet, or no such seat.
+    /// Returns the next answer of the seat at an index, from 0. None if there is no answer yet, or no such seat.
     fn take_answer(&mut self, place: usize) -> Option<SeatAnswer>
         ensures some { IfSome result (λ r. ChangesAt place (TakesAnswer r) self.old self.new) }
         ensures none { IfNone result (ChangesAt place Keeps self.old self.new) }
@@ -489,8 +506,8 @@ impl SeatTable {
         })
     }
 
-    /// Returns the next answer of the seat at a place, from 0. None if there is no answer yet, or no such seat. Orders
-    /// that waited for a seat may then have one.
+    /// Returns the next answer of the seat at an index, from 0. None if there is no answer yet, or no such seat. After
+    /// an answer it submits those of the orders that wait for which a seat is free now.
     pub fn next_answer(&mut self, place: usize) -> Option<SeatAnswer>
         ensures some { IfSome result (λ r. TakesNext place r self.old self.new) }
         ensures none { IfNone result (ChangesAt place Keeps self.old self.new

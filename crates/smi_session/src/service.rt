@@ -1,4 +1,6 @@
-//! Lines become orders, and answers find their sessions.
+//! Serves the sessions of a node: handles their lines, finds the session of each answer, and tells them of events.
+//! `ConsoleLoop`, `ConnectionSet` and `Connection` of `smi_console` call it, all in one thread. No call waits. The
+//! order in which the lines of a session are handled is promised in docs/FORMATS.md, "A node's lines".
 
 ghost use Rattle.std.specs.Prelude.{◌≡◌, OnOk};
 ghost use Rattle.smi_session.specs.StationEvent.{after_event};
@@ -25,26 +27,35 @@ use std::marker::Model;
 use std::sync::Arc;
 use std::time::Instant;
 
-/// The most lines of a session that are handled at once.
+/// The most waiting lines of a session that are handled in one call of `resume`, so that one session does not hold up
+/// the others, and so that the loop ends. The next call goes on. `HandlesWaiting` (`specs/Handling`) has the number
+/// too.
 const LINES_AT_ONCE: usize = 64;
 
-/// Serves the sessions of a node: the seats of its station, what the board shows, and what else a line may ask.
+/// The service of a node's sessions: the seats of the station, what the board shows, and what else a line may ask.
 ///
-/// Contracts see the seats, what the board has shown, the newest states, the events that nobody was told yet, and how
-/// the domains of the station have their children.
+/// Contracts see the seats, what the board has shown, the newest states, the events that were not cleared, and the
+/// modes of the children.
 #[derive(Drop)]
 pub struct SessionService<G: StateReader + Drop> {
+    /// The seats of the station, and the orders that wait for one.
     pub(crate) seats: SeatTable,
+    /// Reads the board of the station, for `show`.
     board: G,
+    /// What the node counts, for `counts`. The thread of the station raises the numbers meanwhile.
     pub(crate) counts: Arc<NodeStats, Global>,
+    /// The newest recorded state of each object, for `states` and `follow`. Its times are not used, and are 0.
     pub(crate) picture: Picture,
-    /// How many datagrams to the node the system has dropped. None if it does not tell.
+    /// How many datagrams to the node the system has dropped, for `counts`. None if the system does not tell.
     pub(crate) drops: Option<u64>,
-    /// The events that were recorded and not cleared.
+    /// The events that were recorded and not cleared, in the order in which they happened. Each session gets all of
+    /// them before they are cleared.
     events: Vec<StationEvent>,
-    /// How the domains of the station have their children.
+    /// The newest mode of each child of the station's domains, for `modes`.
     pub(crate) modes: Vec<ChildState>,
+    /// Room for the line that is being written. What it has between calls means nothing.
     pub(crate) text: Vec<u8>,
+    /// The allocator for subscriptions.
     pub(crate) alloc: Global,
 }
 
@@ -65,7 +76,8 @@ impl<G: StateReader + Drop> Model for SessionService<G> {
     ghost invariant = { λ s. AreInOrder s.picture s.events.items };
 }
 
-/// Tells a session of an event, as it wants to be told.
+/// Pushes the line of an event to a session, if it subscribes to such events: a state to those that follow the object,
+/// an action to those that asked for actions at the device, and missed actions to all that asked for actions.
 fn deliver_event(
     text: &mut Vec<u8>,
     tree: &Tree,
@@ -104,8 +116,8 @@ impl<G: StateReader + Drop> SessionService<G> {
 
     /// Opens the service of a node over these seats, with no events.
     ///
-    /// Its error is that memory was refused. No clause names `alloc`, from which memory comes, nor `counts`, which
-    /// others raise while they are read: a clause is of one moment. tests/consoles_test.py reads them.
+    /// Fails if memory is refused. No clause names `alloc`, from which memory comes, nor `counts`, which others raise
+    /// while they are read: a clause is of one moment. tests/consoles_test.py reads them.
     pub fn open(
         alloc: Global,
         seats: SeatTable,
@@ -129,7 +141,7 @@ impl<G: StateReader + Drop> SessionService<G> {
         boxed(alloc, service)
     }
 
-    /// Sets how many datagrams to the node the system has dropped. None if it does not tell.
+    /// Sets how many datagrams to the node the system has dropped. None if the system does not tell.
     ///
     /// No clause names `drops`: it is shown by `counts` alone, a text of numbers. tests/consoles_test.py reads it.
     pub fn set_drops(&mut self, drops: Option<u64>)
@@ -138,7 +150,8 @@ impl<G: StateReader + Drop> SessionService<G> {
         self.drops = drops;
     }
 
-    /// Returns true if an order was given since this was last asked: then the station has to look at its seats.
+    /// Returns true if an order was submitted since the last call. Then the caller has to wake the station, which looks
+    /// at its seats.
     pub fn has_given(&mut self) -> bool
         ensures asked { result ≡ self.old.seats.has_given }
         ensures told { self.new ≡ record self.old { seats = record self.old.seats { has_given = false } } }
@@ -146,28 +159,28 @@ impl<G: StateReader + Drop> SessionService<G> {
         self.seats.has_given()
     }
 
-    /// Returns true if no order is pending.
+    /// Returns true if no order is pending, and none waits for a seat.
     pub fn is_idle(&self) -> bool
         ensures { result ≡ is_idle self.now.seats }
     {
         self.seats.is_idle()
     }
 
-    /// Returns true if an order of this session is pending.
+    /// Returns true if an order of this session is pending, or waits for a seat.
     pub fn has_pending(&self, session: u64) -> bool
         ensures { result ≡ has_pending self.now.seats session }
     {
         self.seats.has_pending(session)
     }
 
-    /// Returns how many seats there are.
+    /// Returns how many seats there are, the one for reports with them.
     pub fn seat_count(&self) -> usize
         ensures { result ≡ length self.now.seats.queues }
     {
         self.seats.queues().len()
     }
 
-    /// Returns what a line of a session asks.
+    /// Returns what a line of a session asks, or its fault. None if the line is skipped.
     fn request(
         &self,
         tree: &Tree,
@@ -183,7 +196,7 @@ impl<G: StateReader + Drop> SessionService<G> {
 
     /// Does what a line asks: answers it, gives an order, or skips it.
     ///
-    /// Its error is that memory was refused to the output of the session. No order was given then.
+    /// Fails if memory is refused to the session's output. No order was given then.
     fn do_request(
         &mut self,
         tree: &Tree,
@@ -219,9 +232,9 @@ impl<G: StateReader + Drop> SessionService<G> {
         }
     }
 
-    /// Tells the fault of a line.
+    /// Pushes the fault of a line to its session.
     ///
-    /// Its error is that memory was refused to the output of the session.
+    /// Fails if memory is refused to the session's output.
     fn refuse(
         &mut self,
         tree: &Tree,
@@ -237,9 +250,10 @@ impl<G: StateReader + Drop> SessionService<G> {
         push_fault(&mut self.text, tree, operators, session, line, fault)
     }
 
-    /// Handles a line of a session: does what it asks, or tells its fault.
+    /// Handles a line of a session: does what it asks, or pushes its fault. It also notes what the line shows of the
+    /// session (`Trust`).
     ///
-    /// Its error is that memory was refused to the output of the session. No order was given then.
+    /// Fails if memory is refused to the session's output. No order was given then.
     fn handle(
         &mut self,
         tree: &Tree,
@@ -263,9 +277,9 @@ impl<G: StateReader + Drop> SessionService<G> {
         }
     }
 
-    /// Handles the first line of a session that waits. Returns false if there is none, or it may not be handled yet.
+    /// Handles the first waiting line of a session. Returns false if there is none, or it may not be handled yet.
     ///
-    /// Its error is that memory was refused to the output of the session. No order was given then.
+    /// Fails if memory is refused to the session's output. No order was given then.
     fn handle_next(
         &mut self,
         tree: &Tree,
@@ -291,9 +305,9 @@ impl<G: StateReader + Drop> SessionService<G> {
         }
     }
 
-    /// Handles the lines of a session that wait, up to one that gives an order.
+    /// Handles the waiting lines of a session, up to one that gives an order.
     ///
-    /// Its error is that memory was refused to the output of the session.
+    /// Fails if memory is refused to the session's output.
     fn handle_waiting(
         &mut self,
         tree: &Tree,
@@ -303,6 +317,7 @@ impl<G: StateReader + Drop> SessionService<G> {
         ensures ok { OnOk result (HandlesWaiting tree.now now self.old session.old self.new session.new) }
         ensures err { OnErr result (HandlesSome tree.now now self.old session.old self.new) }
     {
+        // The bound is there so that the loop ends.
         for _ in 0..LINES_AT_ONCE {
             if !self.handle_next(tree, now, session)? {
                 return Ok(());
@@ -311,11 +326,11 @@ impl<G: StateReader + Drop> SessionService<G> {
         Ok(())
     }
 
-    /// Gives the order that a session keeps as deferred, if any, and then handles its lines that wait, up to one that
-    /// gives an order.
+    /// Gives the order that a session keeps as deferred, if any, and then handles its waiting lines, up to one that
+    /// gives an order. The caller calls it for each session in each round.
     ///
-    /// Its error is that memory was refused to the output of the session: then it can't be told all. Orders were given
-    /// of the lines before alone.
+    /// Fails if memory is refused to the session's output. Then a part of the output is missing, and orders were given
+    /// only of the lines before.
     pub fn resume(
         &mut self,
         tree: &Tree,
@@ -329,10 +344,10 @@ impl<G: StateReader + Drop> SessionService<G> {
         self.handle_waiting(tree, now, session)
     }
 
-    /// Handles a line at once if it has a tag, and else in its turn.
+    /// Handles a line at once if it has a tag. Any other is put at the end of the session's waiting lines.
     ///
-    /// Its error is that memory was refused to the output of the session, or to its lines that wait. Orders were given
-    /// of the lines before alone.
+    /// Fails if memory is refused to the session's output or to its waiting lines. Then orders were given only of the
+    /// lines before.
     fn handle_line(
         &mut self,
         tree: &Tree,
@@ -344,6 +359,7 @@ impl<G: StateReader + Drop> SessionService<G> {
         ensures err { OnErr result (ReceivesPart tree.now now line.items self.old session.old self.new) }
     {
         let number = session.count_line();
+        // A line that is too long has no tag: its fault has its number.
         if line.len() <= MOST_BYTES_OF_A_LINE {
             if let Some((tag, text)) = tagged(line.as_slice()) {
                 let line = TaggedLine {
@@ -358,11 +374,11 @@ impl<G: StateReader + Drop> SessionService<G> {
         self.resume(tree, now, session)
     }
 
-    /// Receives a line of a session: handles it at once if it has a tag, and else in its turn. Does nothing if the
+    /// Receives a line of a session: handles it at once if it has a tag, and otherwise in its turn. Does nothing if the
     /// session is refused.
     ///
-    /// Its error is that memory was refused to the output of the session, or to its lines that wait. Orders were given
-    /// of the lines before alone.
+    /// Fails if memory is refused to the session's output or to its waiting lines. Then orders were given only of the
+    /// lines before.
     pub fn receive_line(
         &mut self,
         tree: &Tree,
@@ -381,9 +397,9 @@ impl<G: StateReader + Drop> SessionService<G> {
         }
     }
 
-    /// Reports what a session that ends has left to be reported. Nobody is told how these reports end.
+    /// Reports the wills of a session that ends. Nobody is told how these reports end.
     ///
-    /// Its error is that memory was refused: then some are not reported.
+    /// Fails if memory is refused. Then some are not reported.
     pub fn execute_wills(
         &mut self,
         now: Option<Instant>,
@@ -396,7 +412,7 @@ impl<G: StateReader + Drop> SessionService<G> {
             .report_all(now, session.number(), session.wills())
     }
 
-    /// Returns the next answer of the seat at a place, from 0. None if there is none yet.
+    /// Returns the next answer of the seat at an index, from 0. None if there is none yet.
     pub fn next_answer(&mut self, place: usize) -> Option<SeatAnswer>
         ensures some { IfSome result (λ r. TakesNext place r self.old.seats self.new.seats) }
         ensures none { IfNone result (ChangesAt place Keeps self.old.seats self.new.seats
@@ -406,10 +422,10 @@ impl<G: StateReader + Drop> SessionService<G> {
         self.seats.next_answer(place)
     }
 
-    /// Tells an answer to the session that gave its order. Returns false if this is another session, which is told
-    /// nothing.
+    /// Pushes an answer to the session that gave its order, and returns true. Returns false if this is another session,
+    /// which is told nothing.
     ///
-    /// Its error is that memory was refused to the output of the session.
+    /// Fails if memory is refused to the session's output.
     pub fn deliver(
         &mut self,
         tree: &Tree,
@@ -432,7 +448,7 @@ impl<G: StateReader + Drop> SessionService<G> {
         Ok(true)
     }
 
-    /// Returns true if a state is newer than what is known of its object.
+    /// Returns true if a state is newer than the one that the picture has of its object.
     fn is_new(&self, shown: Shown) -> bool
         ensures { result ≡ is_new self.now.picture shown }
     {
@@ -442,23 +458,25 @@ impl<G: StateReader + Drop> SessionService<G> {
         }
     }
 
-    /// Records a state, which is the newest that is known of its object.
+    /// Records a state that is newer than the one that the picture has of its object.
     ///
-    /// Its error is that memory was refused to the event.
+    /// Fails if memory is refused to the event.
     #[tactic(auto, using(crate::proofs::Rising::lost_state))]
     fn record_state(&mut self, shown: Shown) -> Result<(), AllocError>
         requires { is_new self.old.picture shown ≡ true }
         ensures recorded { OnOk result (Records (event.StateChanged shown) self.old self.new) }
         ensures seats { self.new.seats ≡ self.old.seats }
     {
+        // Nobody reads the times of this picture.
         self.picture.show(shown, 0);
         self.events.push(StationEvent::StateChanged(shown))?;
         Ok(())
     }
 
-    /// Records an event. A state that is no newer than what is known of its object is none.
+    /// Records an event, which the sessions are told of later. A state that is no newer than the one that the picture
+    /// has of its object is not recorded.
     ///
-    /// Its error is that memory was refused: then sessions that follow the object miss the event.
+    /// Fails if memory is refused. Then sessions that follow the object miss the event.
     #[tactic(auto, using(crate::proofs::Rising::action_recorded, crate::proofs::Rising::lag_recorded))]
     pub fn record(&mut self, event: StationEvent) -> Result<(), AllocError>
         ensures recorded { OnOk result (Records event self.old self.new) }
@@ -474,9 +492,9 @@ impl<G: StateReader + Drop> SessionService<G> {
         }
     }
 
-    /// Sets how a child is had, in place of what was set of it before.
+    /// Sets the mode of a child, in place of the one that was set before.
     ///
-    /// Its error is that memory was refused.
+    /// Fails if memory is refused.
     pub fn set_mode(&mut self, state: ChildState) -> Result<(), AllocError>
         ensures set { OnOk result (self.new ≡ record self.old { modes = with_newest state self.old.modes }) }
         ensures err { OnErr result (self.new ≡ self.old) }
@@ -493,16 +511,16 @@ impl<G: StateReader + Drop> SessionService<G> {
         }
     }
 
-    /// Clears the events, because all sessions were told of them.
+    /// Clears the events. The caller does so once all sessions were told of them.
     pub fn clear_events(&mut self)
         ensures { self.new ≡ record self.old { events = [] } }
     {
         self.events.clear();
     }
 
-    /// Tells a session of all events, as it wants to be told.
+    /// Pushes the lines of all recorded events to a session, of those to which it subscribes.
     ///
-    /// Its error is that memory was refused to the output of the session.
+    /// Fails if memory is refused to the session's output.
     pub fn deliver_events(&mut self, tree: &Tree, session: &mut Session) -> Result<(), AllocError>
         ensures told { OnOk result (session.new ≡ after_events tree.now self.old.events session.old) }
         ensures same { self.new ≡ self.old }

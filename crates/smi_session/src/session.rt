@@ -1,4 +1,6 @@
-//! A client that types lines, and what is to be told there.
+//! A session: a client that types lines, what of its lines still waits, and what is to be sent to it. `smi_console` has
+//! one for each connection and one for the standard input; `service.rt` handles their lines. Its limits are promised in
+//! docs/FORMATS.md, "Lines with a tag" and "Connections".
 
 ghost use Rattle.std.specs.Prelude.{◌≡◌, ◌==◌, ◌<◌, IfSome, length};
 ghost use Rattle.std.specs.List.{position};
@@ -13,25 +15,30 @@ use std::alloc::{AllocError, Global};
 use std::collections::VecDeque;
 use std::marker::Model;
 
-/// The most lines without a tag that wait for the answer of the one before. Then no further line is taken.
+/// The most lines without a tag that wait for the answer of the one before. Then no further line is taken from the
+/// session. docs/FORMATS.md, "Lines with a tag", and `has_room` (`specs/Session`) have the number too.
 const MOST_WAITING: usize = 64;
 
-/// The most bytes that a session may have unsent, 64 KiB.
+/// The most bytes of output that a session may have unsent, 64 KiB. `smi_console` ends a connection that has more, and
+/// counts a standard output that has more as one that can't be written (docs/FORMATS.md, "Connections").
 pub const MOST_UNSENT: usize = 64 * 1024;
 
-/// No further line of a session is taken while it has more than this many bytes unsent.
+/// No further line of a session is taken while it has more than this many bytes unsent. It is less than `MOST_UNSENT`,
+/// so that a client which types faster than it reads is held up, and not ended, for the answers to its own lines.
+/// `has_room` (`specs/Session`) has the number too.
 const MANY_UNSENT: usize = 16 * 1024;
 
 /// How a session is answered.
 #[derive(Clone, Copy)]
 pub enum ReplyStyle {
-    /// As a script wants it: a fault is told apart, by its number. Only a line with a tag may ask of the whole node.
+    /// For a script, at the standard input: a fault goes to the errors, by its code alone. Only a line with a tag may
+    /// be a query.
     Script,
-    /// As a person wants it: a fault is told in words, among the answers. Any line may ask of the whole node.
+    /// For a person, at a connection: a fault is told in words, among the answers. Any line may be a query.
     Human,
 }
 
-/// A line with its number.
+/// A line with its number, from 1.
 ///
 /// Contracts see both.
 #[derive(Drop)]
@@ -48,33 +55,43 @@ impl Model for NumberedLine {
     ghost view = { λ n. record { number = n.number; line = n.line.items } };
 }
 
-/// An order that waits for a seat.
+/// An order that waits for a seat, in the table of seats or with its session.
 #[derive(Clone, Copy)]
 pub struct Deferred {
     /// The operator who orders. None for a report.
     pub operator: Option<u16>,
+    /// The order, and who gave it.
     pub pending: PendingOrder,
 }
 
-/// A connection or the standard input: its lines that wait, and what is to be told there.
+/// A session: a connection or the standard input, its waiting lines, and what is to be sent to it.
 ///
 /// Contracts see all of it.
 #[derive(Drop)]
 pub struct Session {
+    /// Its number, which no other session of the node has: 0 for the standard input, from 1000 on for connections.
     number: u64,
+    /// How it is answered.
     style: ReplyStyle,
+    /// Whether its lines have shown it to be a client.
     trust: Trust,
+    /// How many lines it has typed, skipped and refused ones too. So it is the number of the last one.
     lines: u64,
-    /// The lines without a tag that wait for the answer of the one before.
+    /// The lines without a tag that wait for the answer of the one before, the oldest first.
     waiting: VecDeque<NumberedLine>,
-    /// Whether an order of a line without a tag is pending.
+    /// True while an order of a line without a tag is not answered.
     is_busy: bool,
+    /// An order for which the table of seats has no room. No further line is taken while there is one.
     deferred: Option<Deferred>,
+    /// What its newest `follow` asked for. None if it follows no states.
     states: Option<Subscription>,
+    /// What its newest `actions` asked for. None if it is told of no actions.
     actions: Option<Subscription>,
-    /// What the node reports when it ends, one state for each device.
+    /// What the node reports when the session ends, one state for each device.
     wills: Vec<DeviceWill>,
+    /// The text that is to be sent and was not sent yet: replies and events.
     output: Vec<u8>,
+    /// The faults that are to be printed on standard error. Only a script's session has any.
     errors: Vec<u8>,
 }
 
@@ -99,7 +116,7 @@ impl Model for Session {
     } };
 }
 
-/// Returns the place of a device's will among others.
+/// Returns the index of a device's will among these. None if the device has none.
 #[tactic(auto, using(crate::proofs::Willing::within_of))]
 fn place_of_will(wills: &[DeviceWill], device: u16) -> Option<usize>
     ensures place { result ≡ position (λ other. other.device == device) wills.now }
@@ -119,9 +136,9 @@ impl Session {
     ghost use Rattle.smi_session.specs.Withdrawal.{has_deferred};
     ghost use Rattle.smi_tree.specs.Text.{words};
 
-    /// Makes a session of this number, which no other has, that has typed nothing.
+    /// Makes a session of this number, which no other session may have, that has typed nothing.
     ///
-    /// Its error is that memory was refused. No clause names `alloc`, from which memory comes.
+    /// Fails if memory is refused. No clause names `alloc`, from which memory comes.
     pub fn new(alloc: Global, number: u64, style: ReplyStyle) -> Result<Session, AllocError>
         ensures { IfOk result (λ s. s ≡ new_session number style) }
     {
@@ -155,7 +172,7 @@ impl Session {
         self.style
     }
 
-    /// Returns true if no line of it is read any more.
+    /// Returns true if the session is refused: no line of it is read any more, and its caller closes it.
     pub fn is_refused(&self) -> bool
         ensures { result ≡ is_refused self.now.trust }
     {
@@ -165,7 +182,7 @@ impl Session {
         }
     }
 
-    /// Accepts the session if a line of it asks something.
+    /// Accepts the session if a line of it asks something. A line without words and a comment ask nothing.
     pub(crate) fn admit(&mut self, request: Option<SessionRequest>)
         ensures { self.new ≡ admitted request self.old }
     {
@@ -174,8 +191,8 @@ impl Session {
         }
     }
 
-    /// Refuses a session that has asked nothing, if a faulty line of it is one that no client begins with. A browser
-    /// sends what a page wrote after such a line: the head of its request.
+    /// Refuses the session if it has asked nothing yet, and this faulty line is one that no client begins with. A
+    /// browser sends such a line, the head of its request, before anything that a page wrote.
     pub(crate) fn judge(&mut self, has_tag: bool, text: &[u8])
         ensures { self.new ≡ judged has_tag (words text.now) self.old }
     {
@@ -204,46 +221,48 @@ impl Session {
         !self.is_busy && self.deferred.is_none() && self.waiting.is_empty()
     }
 
-    /// Returns true if it wants to be told of states or of actions.
+    /// Returns true if it subscribes to states or to actions.
     pub fn has_subscription(&self) -> bool
         ensures { result ≡ (is_some self.now.states || is_some self.now.actions) }
     {
         self.states.is_some() || self.actions.is_some()
     }
 
-    /// Returns what it is to be told and was not told yet.
+    /// Returns the text that is to be sent to it and was not sent yet.
     pub fn output(&self) -> &[u8]
         ensures { result.now ≡ self.now.output }
     {
         self.output.as_slice()
     }
 
-    /// Drops the first `count` bytes of the output, or all if there are no more, because they were sent.
+    /// Drops the first `count` bytes of the output, or all if there are no more. The caller does so once they were
+    /// sent.
     pub fn consume(&mut self, count: usize)
         ensures { self.new ≡ record self.old { output = drop count self.old.output } }
     {
         if count >= self.output.len() {
             self.output.clear();
         } else {
+            // The drained bytes are dropped: they were sent.
             let _ = self.output.drain(..count);
         }
     }
 
-    /// Returns the faults of its lines that are told apart from the output.
+    /// Returns the faults of its lines that are to be printed on standard error.
     pub fn errors(&self) -> &[u8]
         ensures { result.now ≡ self.now.errors }
     {
         self.errors.as_slice()
     }
 
-    /// Drops these faults, because they were told.
+    /// Drops these faults. The caller does so once they were printed.
     pub fn clear_errors(&mut self)
         ensures { self.new ≡ record self.old { errors = [] } }
     {
         self.errors.clear();
     }
 
-    /// Counts a line, and returns its number.
+    /// Counts a line, and returns its number, from 1.
     pub(crate) fn count_line(&mut self) -> u64
         ensures number { result ≡ next_line self.old }
         ensures counted { self.new ≡ counted self.old }
@@ -252,9 +271,9 @@ impl Session {
         self.lines
     }
 
-    /// Adds a line without a tag to those that wait.
+    /// Puts a line without a tag at the end of those that wait.
     ///
-    /// Its error is that memory was refused.
+    /// Fails if memory is refused.
     pub(crate) fn wait(&mut self, number: u64, line: Vec<u8>) -> Result<(), AllocError>
         ensures waits { OnOk result (self.new ≡ waits number line.items self.old) }
         ensures err { OnErr result (self.new ≡ self.old) }
@@ -265,7 +284,7 @@ impl Session {
         }
     }
 
-    /// Takes the first line that waits. None if it may not be handled yet, or the session is refused.
+    /// Takes the first waiting line. None if there is none, it may not be handled yet, or the session is refused.
     pub(crate) fn next_waiting(&mut self) -> Option<NumberedLine>
         ensures { MatchOption result ((self.new ≡ self.old) × (may_go_on self.old ≡ false))
             (λ line. (may_go_on self.old ≡ true) × (self.old ≡ record self.new { waiting = line ∷ self.new.waiting })) }
@@ -277,21 +296,22 @@ impl Session {
         }
     }
 
-    /// Notes that the order of a line is pending.
+    /// Notes that the order of a line is pending. The session is busy then, if the line has no tag.
     pub(crate) fn begin(&mut self, tag: Option<Tag>)
         ensures { self.new ≡ beginning tag self.old }
     {
         self.is_busy = self.is_busy || tag.is_none();
     }
 
-    /// Notes that the order of a line is answered.
+    /// Notes that the order of a line is answered. The session is not busy any more, if the line has no tag.
     pub(crate) fn end(&mut self, tag: Option<Tag>)
         ensures { self.new ≡ ending tag self.old }
     {
         self.is_busy = self.is_busy && tag.is_some();
     }
 
-    /// Keeps an order until it may be given.
+    /// Keeps an order for which the table of seats has no room, until `give_deferred` takes it. It must keep none
+    /// already.
     pub(crate) fn defer(&mut self, order: Deferred)
         ensures { self.new ≡ record self.old { deferred = Some order } }
     {
@@ -318,14 +338,14 @@ impl Session {
         deferred
     }
 
-    /// Subscribes it to states, in place of what it followed before.
+    /// Subscribes it to states, in place of its subscription before.
     pub(crate) fn follow_states(&mut self, subscription: Subscription)
         ensures { self.new ≡ record self.old { states = Some subscription } }
     {
         self.states = Some(subscription);
     }
 
-    /// Subscribes it to actions, in place of what it followed before.
+    /// Subscribes it to actions, in place of its subscription before.
     pub(crate) fn follow_actions(&mut self, subscription: Subscription)
         ensures { self.new ≡ record self.old { actions = Some subscription } }
     {
@@ -341,7 +361,7 @@ impl Session {
 
     /// Sets what the node reports of a device when it ends, in place of what was set of this device before.
     ///
-    /// Its error is that memory was refused.
+    /// Fails if memory is refused.
     pub(crate) fn set_will(&mut self, will: DeviceWill) -> Result<(), AllocError>
         ensures set { OnOk result (self.new ≡ with_will will self.old) }
         ensures err { OnErr result (self.new ≡ self.old) }
@@ -358,7 +378,7 @@ impl Session {
         }
     }
 
-    /// Returns true if it wants to be told the numbers of commands with their actions.
+    /// Returns true if it asked for the domain, epoch and number of the command with each action.
     pub(crate) fn wants_numbers(&self) -> bool
         ensures { result ≡ wants_numbers self.now }
     {
@@ -368,7 +388,8 @@ impl Session {
         }
     }
 
-    /// Returns the tag after which it is told of this object's states. None if it is not told.
+    /// Returns the tag of its `follow`, which is None if that line had none, if it follows this object. None if it does
+    /// not.
     pub(crate) fn state_tag(&self, object: u16) -> Option<Option<Tag>>
         ensures { result ≡ tag_for self.now.states object }
     {
@@ -378,7 +399,8 @@ impl Session {
         }
     }
 
-    /// Returns the tag after which it is told of actions at this object. None if it is not told.
+    /// Returns the tag of its `actions`, which is None if that line had none, if it asked for actions at this object.
+    /// None if it did not.
     pub(crate) fn action_tag(&self, object: u16) -> Option<Option<Tag>>
         ensures { result ≡ tag_for self.now.actions object }
     {
@@ -388,7 +410,7 @@ impl Session {
         }
     }
 
-    /// Returns the tag after which it is told of any actions. None if it is told of none.
+    /// Returns the tag of its `actions`, which is None if that line had none. None if it asked for no actions.
     pub(crate) fn any_action_tag(&self) -> Option<Option<Tag>>
         ensures { result ≡ option_map (λ s. s.tag) self.now.actions }
     {
@@ -398,9 +420,9 @@ impl Session {
         }
     }
 
-    /// Adds a text to the output, after a tag.
+    /// Appends a text to the output, after the tag if there is one, as `@17 told ANN take DCS 0`.
     ///
-    /// Its error is that memory was refused: then a part of the text may be there.
+    /// Fails if memory is refused. Then a part of the text may be in the output.
     pub(crate) fn push_reply(&mut self, tag: Option<Tag>, text: &[u8]) -> Result<(), AllocError>
         ensures pushed { OnOk result (self.new ≡ with_reply tag text.now self.old) }
         ensures err { OnErr result (OnlyReplies self.old self.new) }
@@ -413,9 +435,9 @@ impl Session {
         self.output.extend_from_slice(text)
     }
 
-    /// Adds a fault to those that are told apart.
+    /// Appends the line of a fault to those that are to be printed on standard error.
     ///
-    /// Its error is that memory was refused.
+    /// Fails if memory is refused.
     pub(crate) fn push_error(&mut self, text: &[u8]) -> Result<(), AllocError>
         ensures pushed { OnOk result (self.new ≡ with_error text.now self.old) }
         ensures err { OnErr result (self.new ≡ self.old) }

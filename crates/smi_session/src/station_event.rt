@@ -1,4 +1,7 @@
-//! What happens at a station, as its sessions are told.
+//! The events of a station that its sessions may subscribe to, and the lines that they are told in.
+//! `crates/smi_console/src/event_forwarder.rt` makes the events in the thread of the station, and `service.rt` has them
+//! written here. docs/FORMATS.md, "Lines with a tag", fixes the lines `board`, `acted` and `missed`; `tools/lunskaf.py`
+//! reads them.
 
 ghost use Rattle.std.specs.Prelude.{◌≡◌, ◌++◌, ◌∷◌, [], OnOk, option_map};
 ghost use Rattle.std.specs.Fmt.{decimal};
@@ -16,8 +19,9 @@ use std::io::Write;
 /// An action that was done at a device, whether it moved or not.
 #[derive(Clone, Copy)]
 pub struct ActionDone {
+    /// The number of the action, from 1.
     pub action: u16,
-    /// The state of the device then.
+    /// The device, as an object, with its state and version after the action.
     pub shown: Shown,
     /// The domain at which the command has run.
     pub domain: u16,
@@ -27,18 +31,18 @@ pub struct ActionDone {
     pub number: u32,
 }
 
-/// What happens at a station. Events are told in the order in which they happen.
+/// An event of a station. Sessions are told of events in the order in which they happen.
 #[derive(Clone, Copy)]
 pub enum StationEvent {
-    /// An object has come into a state.
+    /// An object has come into a state: one that the station keeps or watches.
     StateChanged(Shown),
     /// An action was done at a device.
     ActionDone(ActionDone),
-    /// This many actions were done that are not told, because the queue of events was full.
+    /// This many actions were done that nobody is told of, because the queue of events was full.
     Lagged(u32),
 }
 
-/// Adds a blank and a word.
+/// Appends a space and a word.
 fn push_word(text: &mut Vec<u8>, word: &[u8]) -> Result<(), AllocError>
     ensures { OnOk result (text.new.items ≡ text.old.items ++ 32 ∷ word.now) }
 {
@@ -46,7 +50,7 @@ fn push_word(text: &mut Vec<u8>, word: &[u8]) -> Result<(), AllocError>
     text.extend_from_slice(word)
 }
 
-/// Adds a blank and a name, or the number if the tree has no such thing.
+/// Appends a space and a name, or the number if there is no name.
 pub(crate) fn push_called(
     text: &mut Vec<u8>,
     name: Option<&[u8]>,
@@ -56,18 +60,21 @@ pub(crate) fn push_called(
 {
     match name {
         Some(name) => push_word(text, name),
+        // Writing into a Vec fails only if memory is refused.
         None => write!(text, " {number}").map_err(|_| AllocError),
     }
 }
 
-/// Adds a blank, a boot and a sequence.
+/// Appends a space and a version, its boot and its sequence: ` 1.7`.
 fn push_version(text: &mut Vec<u8>, version: Version) -> Result<(), AllocError>
     ensures { OnOk result (text.new.items ≡ text.old.items ++ 32 ∷ version_word version) }
 {
+    // Writing into a Vec fails only if memory is refused.
     write!(text, " {}.{}", version.boot, version.sequence).map_err(|_| AllocError)
 }
 
-/// Returns the name of an object, by its number.
+/// Returns the name of an object by its number, which counts domains from 1 and then devices. None if the tree has no
+/// such object.
 pub(crate) fn object_name(tree: &Tree, number: u16) -> Option<&[u8]>
     ensures { option_map (λ n. n.now) result ≡ object_name tree.now number }
 {
@@ -87,7 +94,7 @@ pub(crate) fn object_name(tree: &Tree, number: u16) -> Option<&[u8]>
     }
 }
 
-/// Returns the name of an action, by its number.
+/// Returns the name of an action by its number, from 1. None if the tree has no such action.
 fn action_name(tree: &Tree, number: u16) -> Option<&[u8]>
     ensures { option_map (λ n. n.now) result ≡ entry tree.now.action_names number }
 {
@@ -98,7 +105,7 @@ fn action_name(tree: &Tree, number: u16) -> Option<&[u8]>
     }
 }
 
-/// Returns the name of a state, by its number.
+/// Returns the name of a state by its number, from 1. None if the tree has no such state.
 pub(crate) fn state_name(tree: &Tree, number: u16) -> Option<&[u8]>
     ensures { option_map (λ n. n.now) result ≡ entry tree.now.state_names number }
 {
@@ -109,17 +116,18 @@ pub(crate) fn state_name(tree: &Tree, number: u16) -> Option<&[u8]>
     }
 }
 
-/// Adds the domain, the epoch and the number of the command that an action was done by.
+/// Appends the domain, the epoch and the number of the command by which an action was done, a space before each.
 fn push_numbers(text: &mut Vec<u8>, tree: &Tree, done: ActionDone) -> Result<(), AllocError>
     ensures { OnOk result (text.new.items ≡ text.old.items ++ 32 ∷ object_word tree.now done.domain
         ++ 32 ∷ decimal done.epoch ++ 32 ∷ decimal done.number) }
 {
     push_called(text, object_name(tree, done.domain), done.domain)?;
+    // Writing into a Vec fails only if memory is refused.
     write!(text, " {} {}", done.epoch, done.number).map_err(|_| AllocError)
 }
 
-/// Puts the line of an action into a text, in place of what was there: with the numbers of its command, or without
-/// them.
+/// Writes the line of an action in place of what the text had: `acted DEVICE ACTION B.Q STATE`, and with `has_numbers`
+/// also ` DOMAIN EPOCH NUMBER`.
 fn write_action(
     text: &mut Vec<u8>,
     tree: &Tree,
@@ -142,16 +150,17 @@ fn write_action(
     Ok(())
 }
 
-/// Puts the line of actions that are not told into a text, in place of what was there.
+/// Writes the line of actions that nobody is told of, in place of what the text had: `missed N`.
 fn write_lagged(text: &mut Vec<u8>, count: u32) -> Result<(), AllocError>
     ensures { OnOk result (text.new.items ≡ lagged_text count) }
 {
     text.clear();
+    // Writing into a Vec fails only if memory is refused.
     writeln!(text, "missed {count}").map_err(|_| AllocError)
 }
 
-/// Puts the line of an event into a text, in place of what was there: an action with the numbers of its command, or
-/// without them.
+/// Writes the line of an event in place of what the text had: of a state `board TPC 1.7 READY`. With `has_numbers` an
+/// action has the numbers of its command.
 pub(crate) fn write_event(
     text: &mut Vec<u8>,
     tree: &Tree,

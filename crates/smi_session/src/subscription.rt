@@ -1,4 +1,5 @@
-//! A subscription of a session to states or actions.
+//! A subscription of a session to states (`follow`) or to actions (`actions`). `reply.rt` makes it of a query's words,
+//! and `session.rt` says by it which events the session is told of (docs/FORMATS.md, "Lines with a tag").
 
 ghost use Rattle.std.specs.Prelude.{IfOk, ◌≡◌};
 ghost use Rattle.smi_tree.specs.Text.{words};
@@ -9,15 +10,16 @@ use smi_tree::{Tree, first_word};
 use std::alloc::{AllocError, Global};
 use std::marker::Model;
 
-/// What a session wants to be told of from now on, and the tag of the line that asked for it.
+/// What a session subscribes to, from its query on.
 ///
 /// Contracts see all of it.
 #[derive(Drop)]
 pub struct Subscription {
+    /// The tag of the query, which each line about it begins with. None if it had none.
     pub(crate) tag: Option<Tag>,
-    /// The objects, or None for all.
+    /// The numbers of the objects; of actions they are devices. None for all.
     pub(crate) objects: Option<Vec<u16>>,
-    /// True if actions are told with the numbers of their commands.
+    /// True if actions are told with the numbers of their commands (`--with numbers`).
     pub(crate) has_numbers: bool,
 }
 
@@ -38,7 +40,7 @@ impl Subscription {
     ghost use Rattle.std.specs.Prelude.{◌≡◌};
     ghost use Rattle.smi_session.specs.Subscription.{includes};
 
-    /// Returns true if it is of this object.
+    /// Returns true if it names this object, or is to all.
     pub(crate) fn includes(&self, object: u16) -> bool
         ensures { result ≡ includes self.now object }
     {
@@ -49,7 +51,7 @@ impl Subscription {
     }
 }
 
-/// Returns the objects that words name. Words that name none are left out.
+/// Returns the objects that words name. A word that names none is left out: `request.rt` has refused such lines before.
 fn objects_in(alloc: Global, tree: &Tree, text: &[u8]) -> Result<Vec<u16>, AllocError>
     ensures { IfOk result (λ objects. objects.items ≡ objects_in tree.now (words text.now)) }
 {
@@ -64,9 +66,9 @@ fn objects_in(alloc: Global, tree: &Tree, text: &[u8]) -> Result<Vec<u16>, Alloc
     Ok(objects)
 }
 
-/// Returns the subscription that words ask for: of the objects that they name, or of all if there are none.
+/// Returns the subscription that words ask for: to the objects that they name, or to all if there are no words.
 ///
-/// Its error is that memory was refused.
+/// Fails if memory is refused.
 pub(crate) fn subscription_in(
     alloc: Global,
     tree: &Tree,

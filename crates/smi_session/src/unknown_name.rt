@@ -1,4 +1,6 @@
-//! Finds the unknown name of a line.
+//! Finds which name of a refused line is unknown, so that a person is told `HVX is no device of the tree` and not only
+//! fault 5. `fault_reply.rt` calls `unknown_in` and `is_verb`. The words are no format: clients read the code of the
+//! fault.
 
 ghost use Rattle.std.specs.Prelude.{◌≡◌, option_map};
 ghost use Rattle.smi_tree.specs.Text.{words};
@@ -8,7 +10,7 @@ use crate::line::{LineKind, kind_of};
 use crate::query::{Query, numbers_in, query_named};
 use smi_tree::{Tree, first_word};
 
-/// What a name of a line stands for.
+/// What a name in a line has to be the name of.
 #[derive(Clone, Copy)]
 pub(crate) enum NameKind {
     /// An operator of this station.
@@ -25,7 +27,7 @@ impl NameKind {
     ghost use Rattle.std.specs.Prelude.{◌≡◌};
     ghost use Rattle.smi_session.specs.UnknownName as spec;
 
-    /// Returns what is said of a name that is none.
+    /// Returns the words that follow a name which is none of these.
     fn message(self) -> &'static [u8]
         ensures { result.now ≡ spec.message self }
     {
@@ -39,7 +41,7 @@ impl NameKind {
         }
     }
 
-    /// Returns true if a name is one of these.
+    /// Returns true if a name is that of such a thing. `operators` are those of the station.
     fn has(self, tree: &Tree, operators: &[u16], name: &[u8]) -> bool
         ensures { result ≡ spec.has tree.now operators.now self name.now }
     {
@@ -57,7 +59,8 @@ impl NameKind {
     }
 }
 
-/// Returns what the first name after the verb of an order stands for, and the second one. None if there is no such.
+/// Returns what the first name after the verb of an order has to be, and the second one. None for a name that the order
+/// does not have; both are None if the word is no verb.
 fn kinds_of_order(verb: &[u8]) -> (Option<NameKind>, Option<NameKind>)
     ensures { result ≡ spec.kinds_of_order verb.now }
 {
@@ -78,14 +81,14 @@ fn kinds_of_order(verb: &[u8]) -> (Option<NameKind>, Option<NameKind>)
     }
 }
 
-/// An unknown name, and the text about it.
+/// An unknown name, and the words that follow it in the reply.
 #[derive(Clone, Copy)]
 pub(crate) struct UnknownName<'a> {
     pub(crate) name: &'a [u8],
     pub(crate) message: &'static [u8],
 }
 
-/// Returns the first word of a text if it is no such name.
+/// Returns the first word of a text if it is not the name of such a thing. None if it is, or there is no word.
 fn unknown_first<'a>(
     tree: &Tree,
     operators: &[u16],
@@ -114,7 +117,7 @@ pub(crate) fn is_verb(word: &[u8]) -> bool
     first.is_some()
 }
 
-/// Returns the first of two names of a text that is unknown.
+/// Returns the first unknown name of the first two words of a text. None if both are known.
 fn unknown_of_two<'a>(
     tree: &Tree,
     operators: &[u16],
@@ -147,7 +150,7 @@ fn unknown_of_order<'a>(tree: &Tree, operators: &[u16], text: &'a [u8]) -> Optio
     }
 }
 
-/// Returns the first of the words of a text that is no such name.
+/// Returns the first word of a text that is not the name of such a thing. None if all are.
 fn unknown_among<'a>(
     tree: &Tree,
     operators: &[u16],
@@ -170,7 +173,7 @@ fn unknown_among<'a>(
     None
 }
 
-/// Returns the first unknown name of a line. None if there is none.
+/// Returns the first unknown name of a line. None if it finds none.
 pub(crate) fn unknown_in<'a>(
     tree: &Tree,
     operators: &[u16],
@@ -194,6 +197,7 @@ pub(crate) fn unknown_in<'a>(
                 let (_, names) = numbers_in(rest);
                 unknown_among(tree, operators, NameKind::Device, names)
             }
+            // No other query has names.
             _ => None,
         },
     }

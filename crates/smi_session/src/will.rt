@@ -1,4 +1,6 @@
-//! What a node reports when a session ends.
+//! A will: the state of a device that the node reports when a session ends, however it ends. By it the crew sees that a
+//! device program has died (docs/DEVICES.md, "A supply that vanishes"). `session.rt` keeps wills, and `seat_table.rt`
+//! reports them. docs/FORMATS.md, "Connections", fixes the line.
 
 ghost use Rattle.std.specs.Prelude.{◌≡◌, OnOk, option_map};
 ghost use Rattle.smi_tree.specs.Hierarchy.{entry};
@@ -8,14 +10,16 @@ use crate::station_event::{push_called, state_name};
 use smi_tree::Tree;
 use std::alloc::AllocError;
 
-/// A state of a device that a node reports when a session ends: the last that its program has to say.
+/// A state of a device that the node reports when a session ends.
 #[derive(Clone, Copy)]
 pub struct DeviceWill {
+    /// The number of the device, from 1 among devices.
     pub device: u16,
+    /// The number of the state, from 1.
     pub state: u16,
 }
 
-/// Returns the name of a device, by its number.
+/// Returns the name of a device by its number, from 1. None if the tree has no such device.
 fn device_name(tree: &Tree, number: u16) -> Option<&[u8]>
     ensures { option_map (λ n. n.now) result ≡ entry tree.now.device_names number }
 {
@@ -26,9 +30,9 @@ fn device_name(tree: &Tree, number: u16) -> Option<&[u8]>
     }
 }
 
-/// Puts the line of a will into a text, in place of what was there.
+/// Writes the reply to a will in place of what the text had: `will DEVICE STATE`, with a line feed.
 ///
-/// Its error is that memory was refused.
+/// Fails if memory is refused.
 pub(crate) fn write_will(
     text: &mut Vec<u8>,
     tree: &Tree,

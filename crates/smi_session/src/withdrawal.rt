@@ -1,4 +1,6 @@
-//! Orders that their session takes back.
+//! Withdraws orders: the line `withdraw TAG` takes back the order that the same session gave with this tag, if no seat
+//! has it yet. `service.rt` calls `withdraw`. docs/FORMATS.md, "Lines with a tag", fixes the replies, which a screen's
+//! relay passes on to its page.
 
 ghost use Rattle.std.specs.Prelude.{◌≡◌, OnOk};
 ghost use Rattle.smi_tree.specs.Text.{words};
@@ -12,18 +14,18 @@ use crate::tag::TaggedLine;
 use smi_tree::first_word;
 use std::alloc::AllocError;
 
-/// What becomes of an order that is to be taken back.
+/// What becomes of an order that a session wants to take back.
 #[derive(Clone, Copy)]
 pub enum Withdrawal {
-    /// It waited for a seat, and is not given any more.
+    /// It waited for a seat, and is not given any more. Nothing was sent of it.
     Withdrawn,
-    /// It was given to the station already.
+    /// It was given to a seat already, and goes on.
     Begun,
-    /// No order of the session has this tag.
+    /// No order of the session that is not answered has this tag.
     Unknown,
 }
 
-/// Returns the tag that a line names after its first word.
+/// Returns the tag that a line names after its first word, without an `@`; nothing if it names none.
 fn named_tag(text: &[u8]) -> &[u8]
     ensures { result.now ≡ spec.named_tag (words text.now) }
 {
@@ -33,7 +35,7 @@ fn named_tag(text: &[u8]) -> &[u8]
     }
 }
 
-/// Returns the word for what becomes of an order.
+/// Returns the word with which the reply to `withdraw` begins.
 fn word_of(withdrawal: Withdrawal) -> &'static [u8]
     ensures { result.now ≡ spec.word_of withdrawal }
 {
@@ -44,7 +46,7 @@ fn word_of(withdrawal: Withdrawal) -> &'static [u8]
     }
 }
 
-/// Puts what the line of an order is told that was taken back into a text, in place of what was there.
+/// Writes the reply to the line of an order that was taken back, in place of what the text had: `@OTHER withdrawn`.
 fn write_withdrawn(text: &mut Vec<u8>, tag: &[u8]) -> Result<(), AllocError>
     ensures { OnOk result (text.new.items ≡ spec.withdrawn_text tag.now) }
 {
@@ -55,7 +57,7 @@ fn write_withdrawn(text: &mut Vec<u8>, tag: &[u8]) -> Result<(), AllocError>
     text.extend_from_slice(b"withdrawn\n")
 }
 
-/// Puts the answer to the line that takes an order back into a text, in place of what was there.
+/// Writes the reply to the line that takes an order back, in place of what the text had: `withdrawn OTHER`.
 fn write_withdrawal(
     text: &mut Vec<u8>,
     withdrawal: Withdrawal,
@@ -71,7 +73,8 @@ fn write_withdrawal(
     Ok(())
 }
 
-/// Tells a session that its order of this tag was taken back, if it was.
+/// Pushes the reply to the order of this tag, if it is withdrawn. Pushes nothing otherwise, because that order is
+/// answered later.
 fn tell_order(
     text: &mut Vec<u8>,
     session: &mut Session,
@@ -94,10 +97,10 @@ impl<G: StateReader + Drop> SessionService<G> {
     ghost use Rattle.smi_tree.specs.Text.{words};
     ghost use Rattle.smi_session.specs.Withdrawal.{Withdraws, named_tag};
 
-    /// Takes back the order whose tag a line names, if it waits for a seat. Tells the order's line so, and the line
-    /// that asked for it what came of it.
+    /// Takes back the order whose tag a line names, if it waits for a seat. Pushes a reply to that order's line, and
+    /// one to the line that asked for it.
     ///
-    /// Its error is that memory was refused to the output of the session: then the order waits as before.
+    /// Fails if memory is refused to the session's output. Then the order waits as before.
     pub(crate) fn withdraw(
         &mut self,
         session: &mut Session,
@@ -110,6 +113,7 @@ impl<G: StateReader + Drop> SessionService<G> {
     {
         let named = named_tag(line.text);
         let withdrawal = self.seats.withdrawal_of(session, named);
+        // Both replies come before the order is removed, because they may fail.
         tell_order(&mut self.text, session, withdrawal, named)?;
         write_withdrawal(&mut self.text, withdrawal, named)?;
         session.push_reply(line.tag, self.text.as_slice())?;
