@@ -1,4 +1,7 @@
-//! The alarms that somebody has acknowledged.
+//! The alarms that somebody has acknowledged on a screen's page. `routing.rt` tests the lines of `POST /api/alarms`
+//! here, `page_orders.rt` keeps the list, `orders_json.rt` shows it to all pages, and `order_notes.rt` puts it into the
+//! history. docs/FORMATS.md, "Orders from the page", fixes the line, and docs/DECISIONS.md, "The screen", says why the
+//! list is in no file.
 
 ghost use Rattle.std.specs.Prelude.{◌≡◌, ◌≤◌, ◌<◌, length, vec_capacity, IfSome, OnErr, OnOk};
 ghost use Rattle.smi_tree.specs.Declaration.{two_names};
@@ -11,24 +14,27 @@ use smi_tree::{Fault, Name, Tree, two_names};
 use std::alloc::{AllocError, Global};
 use std::marker::Model;
 
-/// The most that are kept. All devices, domains and stations of a tree are fewer.
+/// The most acknowledged alarms that are kept. All devices, domains and stations of a tree together are fewer: 768. The
+/// number is in docs/FORMATS.md, "Orders from the page", and in `specs/Acknowledgements` too.
 pub const MOST_ACKNOWLEDGED: usize = 1_024;
 
-/// What can be in alarm.
+/// What can be in alarm, by its word in the line.
 #[derive(Clone, Copy)]
 enum AlarmKind {
+    /// A device in a state that is an alarm.
     Device,
+    /// A domain whose unit is in a state that is an alarm.
     Domain,
-    /// It is silent.
+    /// A station that is silent.
     Station,
 }
 
 /// An alarm that somebody has acknowledged.
 #[derive(Drop)]
 pub struct Acknowledgement {
-    /// What is in alarm, and who has acknowledged it: `device PIXEL_HV7 ANN`.
+    /// What is in alarm, and the operator who has acknowledged it: `device PIXEL_HV7 ANN`.
     pub text: Bytes,
-    /// When, in milliseconds.
+    /// When, in milliseconds since the screen began. A page compares it with the time at which the alarm began.
     pub at: u64,
 }
 
@@ -43,7 +49,8 @@ fn is_known(tree: &Tree, kind: AlarmKind, name: &[u8]) -> bool
     }
 }
 
-/// Returns true if two names are that of something of this kind, and that of an operator of the tree.
+/// Returns true if the first of two names is that of something of this kind, and the second that of an operator of the
+/// tree.
 fn is_by_operator(tree: &Tree, kind: AlarmKind, names: Result<(Name<'_>, Name<'_>), Fault>) -> bool
     ensures { result ≡ spec.is_by_operator tree.now kind names.entry }
 {
@@ -51,18 +58,19 @@ fn is_by_operator(tree: &Tree, kind: AlarmKind, names: Result<(Name<'_>, Name<'_
         Ok((name, operator)) => {
             is_known(tree, kind, name.text()) && tree.operator_named(operator.text()).is_some()
         }
+        // A text with other than two names acknowledges nothing.
         Err(_) => false,
     }
 }
 
-/// Returns true if a text names something of this kind, and then an operator.
+/// Returns true if a text is the name of something of this kind, and then that of an operator.
 fn is_alarm(tree: &Tree, kind: AlarmKind, text: &[u8]) -> bool
     ensures { result ≡ spec.is_alarm tree.now kind text.now }
 {
     is_by_operator(tree, kind, two_names(text))
 }
 
-/// Returns true if a text names what is in alarm, and then an operator.
+/// Returns true if a text is a kind, a name of this kind, and an operator: `device PIXEL_HV7 ANN`.
 fn is_alarm_text(tree: &Tree, text: &[u8]) -> bool
     ensures { result ≡ spec.is_alarm_text tree.now text.now }
 {
@@ -92,12 +100,13 @@ pub fn is_acknowledgement(tree: &Tree, line: &[u8]) -> bool
     }
 }
 
-/// The alarms that somebody has acknowledged.
+/// The list of the alarms that somebody has acknowledged.
 ///
 /// Contracts see them, the oldest first.
 #[derive(Drop)]
 pub struct Acknowledgements {
     alloc: Global,
+    /// The acknowledgements, the oldest first, `MOST_ACKNOWLEDGED` at most.
     kept: Vec<Acknowledgement>,
 }
 
@@ -113,7 +122,7 @@ impl Model for Acknowledgements {
     ghost invariant = { λ a. length a.kept.items ≤ most_acknowledged };
 }
 
-/// Returns the place of one of these words.
+/// Returns the index of the acknowledgement with this text. None if there is none.
 fn place_of(kept: &[Acknowledgement], text: &[u8]) -> Option<usize>
     ensures place { result ≡ spec.place_of text.now kept.now }
     ensures within { IfSome result (λ i. i < length kept.now) }
@@ -121,7 +130,7 @@ fn place_of(kept: &[Acknowledgement], text: &[u8]) -> Option<usize>
     kept.iter().position(|one| one.text.as_slice() == text)
 }
 
-/// Removes the oldest, if no more can be kept.
+/// Removes the oldest acknowledgement, if no more can be kept.
 fn drop_oldest(kept: &mut Vec<Acknowledgement>)
     requires { length kept.old.items ≤ spec.most_acknowledged }
     ensures items { kept.new.items ≡ spec.without_oldest kept.old.items }
@@ -133,7 +142,7 @@ fn drop_oldest(kept: &mut Vec<Acknowledgement>)
     }
 }
 
-/// Removes the one of these words, or the oldest if no more can be kept.
+/// Removes the acknowledgement with this text, or the oldest one if there is none and no more can be kept.
 fn make_room(kept: &mut Vec<Acknowledgement>, text: &[u8])
     requires { length kept.old.items ≤ spec.most_acknowledged }
     ensures items { kept.new.items ≡ spec.with_room text.now kept.old.items }
@@ -152,7 +161,7 @@ impl Acknowledgements {
     ghost use Rattle.std.specs.Prelude.{◌≡◌, ◌≤◌, [], length, OnErr, OnOk};
     ghost use Rattle.smi_web.specs.Acknowledgements as spec;
 
-    /// Makes a list of none.
+    /// Makes an empty list.
     ///
     /// No clause names `alloc`, from which memory comes.
     pub fn new(alloc: Global) -> Acknowledgements
@@ -164,7 +173,7 @@ impl Acknowledgements {
         }
     }
 
-    /// Returns them, the oldest first.
+    /// Returns the acknowledgements, the oldest first.
     pub fn as_slice(&self) -> &[Acknowledgement]
         ensures items { result.now ≡ self.now }
         ensures most { length result.now ≤ spec.most_acknowledged }
@@ -172,7 +181,7 @@ impl Acknowledgements {
         self.kept.as_slice()
     }
 
-    /// Notes that the alarm of these words was acknowledged now, as the newest.
+    /// Adds the acknowledgement of this text as the newest, with the time `now`.
     fn note(&mut self, text: &[u8], now: u64) -> Result<(), AllocError>
         ensures ok { OnOk result (self.new ≡ spec.noted self.old text.now now) }
         ensures err { OnErr result (self.new ≡ self.old) }
@@ -185,14 +194,15 @@ impl Acknowledgements {
         make_room(&mut self.kept, text);
         match self.kept.push(one) {
             Ok(()) => Ok(()),
+            // `reserve` has made room for one, and `make_room` takes none of it away.
             Err(_) => unreachable!(),
         }
     }
 
-    /// Notes what a line acknowledges now. An earlier one of the same words is forgotten; if there is none, and no more
-    /// can be kept, the oldest is. A line that acknowledges nothing changes nothing.
+    /// Adds what a line acknowledges as the newest. An earlier one with the same text is removed. If there is none, and
+    /// no more can be kept, the oldest is removed. A line that acknowledges nothing changes nothing.
     ///
-    /// It fails only if memory ran out, which tests alone see, and changes nothing then.
+    /// Fails only if memory is refused (tested, not proved), and changes nothing then.
     pub fn acknowledge(&mut self, line: &[u8], now: u64) -> Result<(), AllocError>
         ensures ok { OnOk result (self.new ≡ spec.acknowledged self.old line.now now) }
         ensures err { OnErr result (self.new ≡ self.old) }

@@ -1,4 +1,6 @@
-//! What has changed in the picture, as JSON.
+//! Writes what has changed in the picture within the last two seconds, as JSON, for pages that have a recent picture.
+//! `snapshot.rt` calls `write_changes`, and `routing.rt` decides by `changes_since` who gets it. docs/FORMATS.md, "What
+//! has changed as JSON", fixes the text, which `crates/smi_program/page/contact.mjs` asks for.
 
 ghost use Rattle.std.specs.Prelude.{◌≡◌, ◌++◌, IfOk, OnOk, option_map};
 ghost use Rattle.smi_web.specs.ChangesJson as spec;
@@ -10,17 +12,18 @@ use smi_tree::Tree;
 use smi_view::{Hearing, Picture, Sight};
 use std::alloc::{AllocError, Global};
 
-/// How many milliseconds before a picture its changes begin.
+/// The changes of a picture are those of this many milliseconds before it. docs/FORMATS.md, "The screen", promises two
+/// seconds. A page that is longer without a picture gets the whole one.
 pub const CHANGES_TOLD: u64 = 2_000;
 
-/// Returns the time from which on the changes of a picture are told that was looked at at this time.
+/// Returns the time from which on changes are told with a picture of the time `now`; 0 in the first two seconds.
 pub fn changes_since(now: u64) -> u64
     ensures { result ≡ spec.changes_since now }
 {
     now.saturating_sub(CHANGES_TOLD)
 }
 
-/// Returns true if a state was shown at this time or after it.
+/// Returns true if a state was shown at the time `since` or later. Returns false if there is no state.
 fn is_shown_since(since: u64, sight: Option<Sight>) -> bool
     ensures { result ≡ spec.is_shown_since since sight }
 {
@@ -30,7 +33,7 @@ fn is_shown_since(since: u64, sight: Option<Sight>) -> bool
     }
 }
 
-/// Returns true if a record was told first at this time or after it.
+/// Returns true if a record was told first at the time `since` or later. Returns false if there is no record.
 fn is_told_since(since: u64, hearing: &Option<Hearing>) -> bool
     ensures { result ≡ spec.is_told_since since hearing.now }
 {
@@ -40,7 +43,7 @@ fn is_told_since(since: u64, hearing: &Option<Hearing>) -> bool
     }
 }
 
-/// Writes when a domain was last heard of, if that was at this time or after it, and else 0.
+/// Appends when the keeper of a domain was last heard, if that was at the time `since` or later, and `0` otherwise.
 fn put_heard(text: &mut Vec<u8>, since: u64, hearing: &Option<Hearing>) -> Result<(), AllocError>
     ensures { OnOk result (text.new.items ≡ text.old.items ++ spec.heard_text since hearing.now) }
 {
@@ -50,11 +53,12 @@ fn put_heard(text: &mut Vec<u8>, since: u64, hearing: &Option<Hearing>) -> Resul
     }
 }
 
-/// The domains of a picture, and from which time on what became of them is told.
+/// Lists the domains of a picture: one that has changed since then in full, and any other as a number.
 #[derive(Clone, Copy)]
 struct ChangedDomains<'a> {
     tree: &'a Tree,
     picture: &'a Picture,
+    /// From which time on changes are told, in milliseconds since the screen began.
     since: u64,
 }
 
@@ -62,7 +66,7 @@ impl<'a> ChangedDomains<'a> {
     ghost use Rattle.std.specs.Prelude.{◌≡◌};
     ghost use Rattle.smi_web.specs.ChangesJson.{is_changed_domain};
 
-    /// Returns true if a domain has a new state or a new record.
+    /// Returns true if a domain has a state or a record that is new.
     fn is_changed(&self, domain: u16) -> bool
         ensures { result ≡ is_changed_domain self.now.picture.now self.now.since domain }
     {
@@ -85,11 +89,12 @@ impl<'a> Listing for ChangedDomains<'a> {
     }
 }
 
-/// The devices of a picture, and from which time on what became of them is told.
+/// Lists the devices of a picture: one that has changed since then in full, and any other as `0`.
 #[derive(Clone, Copy)]
 struct ChangedDevices<'a> {
     tree: &'a Tree,
     picture: &'a Picture,
+    /// From which time on changes are told, in milliseconds since the screen began.
     since: u64,
 }
 
@@ -108,11 +113,13 @@ impl<'a> Listing for ChangedDevices<'a> {
     }
 }
 
-/// Writes what has changed in a picture within the last two seconds, in one line of JSON: the number of the picture,
-/// the time at which it was looked at, and from which time on. A domain or a device has 0 in its place if nothing of it
-/// is new, and a domain the time at which it was last heard of if no more than that is.
+/// Writes what has changed in a picture within the last two seconds, in one line of JSON. `number` is the number of the
+/// picture, and `now` its time in milliseconds since the screen began. A domain or a device of which nothing is new is
+/// `0`. A domain of which no more is new than when its keeper was heard is that time:
 ///
-/// It fails only if memory ran out, which tests alone see. No clause names `alloc`, from which memory comes.
+/// `{"frame":311,"now":62244,"since":60244,"domains":[0,62190,{"name":"TPC","shown":SHOWN,"told":TOLD},..],"devices":[0,..]}`
+///
+/// Fails only if memory is refused (tested, not proved). No clause names `alloc`, from which memory comes.
 pub fn write_changes(
     alloc: Global,
     tree: &Tree,

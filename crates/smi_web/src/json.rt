@@ -1,4 +1,6 @@
-//! Writes pieces of JSON.
+//! Appends parts of JSON to a text: names, flags and strings, each after a fixed text. All files of this crate that
+//! write JSON or metrics use it. Nothing is escaped, because the names of a tree and all kept lines are plain text
+//! without quotes.
 
 ghost use Rattle.std.specs.Prelude.{◌≡◌, ◌++◌, OnOk, codes, option_map};
 ghost use Rattle.smi_schedule.specs.TraceWords.{called};
@@ -7,7 +9,7 @@ ghost use Rattle.smi_web.specs.Json.{flag, quoted};
 use smi_history::{put, put_called};
 use std::alloc::AllocError;
 
-/// Writes a piece, and after it a name in quotes.
+/// Appends `before` and then a name in quotes, or the number in quotes if there is no name.
 pub(crate) fn put_quoted(
     text: &mut Vec<u8>,
     before: &[u8],
@@ -23,7 +25,7 @@ pub(crate) fn put_quoted(
     put(text, b"\"")
 }
 
-/// Writes a piece, and after it whether something holds.
+/// Appends `before` and then `true` or `false`.
 #[tactic(auto, unfolding(crate::specs::Json::flag))]
 pub(crate) fn put_flag(text: &mut Vec<u8>, before: &[u8], is: bool) -> Result<(), AllocError>
     ensures { OnOk result (text.new.items ≡ text.old.items ++ before.now ++ flag is) }
@@ -32,7 +34,7 @@ pub(crate) fn put_flag(text: &mut Vec<u8>, before: &[u8], is: bool) -> Result<()
     put(text, if is { b"true" } else { b"false" })
 }
 
-/// Writes a piece, and after it a text in quotes. It has nothing that had to be escaped.
+/// Appends `before` and then a text in quotes. The text must not need escapes.
 pub(crate) fn put_text(text: &mut Vec<u8>, before: &[u8], piece: &[u8]) -> Result<(), AllocError>
     ensures { OnOk result (text.new.items ≡ text.old.items ++ before.now ++ quoted piece.now) }
 {

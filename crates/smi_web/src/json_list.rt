@@ -1,4 +1,5 @@
-//! Writes lists of things that are numbered from 1.
+//! Appends lists of things that are numbered from 1, as the domains of a tree. The files of this crate that write JSON
+//! or metrics implement `Listing` for each kind of list.
 
 ghost use Rattle.std.specs.Prelude.{ℕ, List, ◌≡◌, ◌++◌, OnOk, codes};
 ghost use Rattle.smi_web.specs.Json.{listed, separator};
@@ -6,16 +7,16 @@ ghost use Rattle.smi_web.specs.Json.{listed, separator};
 use smi_history::put;
 use std::alloc::AllocError;
 
-/// Has a text for each number.
+/// A list that has a text for each number from 1.
 pub(crate) trait Listing {
     ghost text: { Self → ℕ → List ℕ };
 
-    /// Puts the text of a number at the end.
+    /// Appends the text of a number.
     fn put(&self, into: &mut Vec<u8>, number: u16) -> Result<(), AllocError>
         ensures { OnOk result (into.new.items ≡ into.old.items ++ text self.now number) };
 }
 
-/// Writes what comes before the text that this many others precede.
+/// Appends `between`, but for the first text of a list, whose index `place` is 0.
 fn put_separator(text: &mut Vec<u8>, between: &[u8], place: u16) -> Result<(), AllocError>
     ensures { OnOk result (text.new.items ≡ text.old.items ++ separator between.now place) }
 {
@@ -26,7 +27,7 @@ fn put_separator(text: &mut Vec<u8>, between: &[u8], place: u16) -> Result<(), A
     }
 }
 
-/// Writes one text more, after this many others.
+/// Appends the text of a number, and before it `between` unless it is the first. `place` is its index, from 0.
 fn put_next<L: Listing>(
     text: &mut Vec<u8>,
     between: &[u8],
@@ -41,7 +42,7 @@ fn put_next<L: Listing>(
     listing.put(text, number)
 }
 
-/// Writes the texts of the numbers from 1 to `count`, with `between` between two of them.
+/// Appends the texts of the numbers from 1 to `count`, with `between` between two of them.
 #[tactic(auto, using(crate::proofs::Numbered::listed_next))]
 pub(crate) fn put_listed<L: Listing>(
     text: &mut Vec<u8>,
@@ -57,7 +58,8 @@ pub(crate) fn put_listed<L: Listing>(
     Ok(())
 }
 
-/// Writes a list of these texts in JSON, whose brackets are in what comes before and after it.
+/// Appends `before` and then the texts with commas between them. The opening bracket is in `before`, and the caller
+/// appends the closing one.
 pub(crate) fn put_list<L: Listing>(
     text: &mut Vec<u8>,
     before: &[u8],

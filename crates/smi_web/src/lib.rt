@@ -1,10 +1,13 @@
-//! What a screen answers over HTTP: a function of a request and a snapshot, without socket or clock.
+//! What a screen answers over HTTP: a function of a request and a snapshot, without socket or clock. `smi_screen` calls
+//! it and has the sockets, the clock, and the connection with a node's console. The page that it serves is in
+//! `crates/smi_program/page`.
 //!
 //! - A [`Snapshot`] has the texts that are served: the page, the tree, and a picture as it was at one moment. It is
 //!   made once for many requests ([`Snapshot::renew`]). A copy of a text shares its bytes.
 //! - [`WebService`] answers requests from a snapshot. [`route_request`] says which text a request gets. No other bytes
-//!   are ever served. Nothing changes by a request but for one kind: if orders may be given ([`PageOrders`]), an order
-//!   that comes from the page itself, which shows the key that is in it, is given to the relay.
+//!   are ever served. Two kinds of requests change something, if orders may be given ([`PageOrders`]) and the request
+//!   comes from the page itself, which shows the key that is in it: an order is given to the relay, and an alarm is
+//!   acknowledged.
 //! - [`OrderRelay`] takes the orders of a page to a node's console, and their answers back. An order that is given
 //!   becomes a [`RelayedOrder`], and its line follows a tag of its own among the bytes that are to be sent
 //!   ([`OrderRelay::unsent`]). If it came with the name of who gives it, a remark that tells the name is before its

@@ -1,4 +1,6 @@
-//! The picture as metrics, in Prometheus' text format.
+//! Writes the picture as metrics in Prometheus' text format, the answer to `/metrics`. `snapshot.rt` calls
+//! `write_metrics`. docs/FORMATS.md, "Figures", fixes the names and labels, on which the alerts and dashboards of a
+//! site rest.
 
 ghost use Rattle.std.specs.Prelude.{◌≡◌, ◌++◌, IfOk, OnOk};
 ghost use Rattle.smi_web.specs.Metrics.{
@@ -34,29 +36,34 @@ use smi_tree::Tree;
 use smi_view::{Hearing, Picture, Sight};
 use std::alloc::{AllocError, Global};
 
-/// The figures of a screen beside its picture.
+/// The figures of a screen that are not in its picture.
 #[derive(Clone, Copy, PartialEq, Eq)]
 pub struct ScreenFigures {
-    /// The number of the picture.
+    /// The number of the picture, which is how many the screen has made.
     pub number: u64,
-    /// The time at which it is looked at, in milliseconds.
+    /// The time of the picture, in milliseconds since the screen began.
     pub now: u64,
-    /// How many datagrams came to the screen from foreign sources.
+    /// How many datagrams the screen's station received from another address than their sender's (`--sources`).
     pub foreign: u64,
 }
 
-/// A metric of each domain.
+/// A metric that each domain has which was heard.
 #[derive(Clone, Copy, PartialEq, Eq)]
 enum Metric {
+    /// 1 if somebody holds the domain, 0 if it is free.
     Held,
+    /// 1 while the domain works on a command, 0 otherwise.
     Busy,
+    /// The epoch of its record: how often it has changed hands.
     Epoch,
+    /// The outcome of its last command, 0 if it was done or is not settled.
     Outcome,
-    /// How long ago it was heard.
+    /// How long ago its keeper was last heard, in seconds.
     Age,
 }
 
 impl Metric {
+    /// Returns the name of a metric.
     fn name(self) -> &'static [u8]
         ensures { result.now ≡ name_text self }
     {
@@ -69,6 +76,7 @@ impl Metric {
         }
     }
 
+    /// Returns the text of a metric's `# HELP` line.
     fn help(self) -> &'static [u8]
         ensures { result.now ≡ help_text self }
     {
@@ -84,6 +92,7 @@ impl Metric {
     }
 }
 
+/// Returns 1 if a domain has this holder, 0 if it is free.
 fn held_number(holder: Holder) -> u64
     ensures { result ≡ held_number holder }
 {
@@ -94,6 +103,7 @@ fn held_number(holder: Holder) -> u64
     }
 }
 
+/// Returns 1 while a domain in this phase works on a command, 0 otherwise.
 fn busy_number(phase: Phase) -> u64
     ensures { result ≡ busy_number phase }
 {
@@ -103,7 +113,7 @@ fn busy_number(phase: Phase) -> u64
     }
 }
 
-/// Writes milliseconds as seconds with three places.
+/// Appends milliseconds as seconds with three decimal places: 1234 as `1.234`.
 fn put_seconds(text: &mut Vec<u8>, ms: u64) -> Result<(), AllocError>
     ensures { OnOk result (text.new.items ≡ text.old.items ++ seconds_text ms) }
 {
@@ -113,6 +123,7 @@ fn put_seconds(text: &mut Vec<u8>, ms: u64) -> Result<(), AllocError>
     put_number(text, b"", ms % 10)
 }
 
+/// Appends the value of a metric of a domain of which this was heard. `now` is the time of the picture.
 fn put_value(text: &mut Vec<u8>, metric: Metric, now: u64, had: &Hearing) -> Result<(), AllocError>
     ensures { OnOk result (text.new.items ≡ text.old.items ++ value_text metric now had.now) }
 {
@@ -126,7 +137,7 @@ fn put_value(text: &mut Vec<u8>, metric: Metric, now: u64, had: &Hearing) -> Res
     }
 }
 
-/// Writes what is above the samples of a metric.
+/// Appends the `# HELP` and the `# TYPE` line of a metric. `kind` is `gauge` or `counter`.
 #[tactic(auto, unfolding(crate::specs::Metrics::head_text))]
 fn put_head(text: &mut Vec<u8>, name: &[u8], help: &[u8], kind: &[u8]) -> Result<(), AllocError>
     ensures { OnOk result (text.new.items ≡ text.old.items ++ head_text name.now help.now kind.now) }
@@ -142,7 +153,7 @@ fn put_head(text: &mut Vec<u8>, name: &[u8], help: &[u8], kind: &[u8]) -> Result
     put(text, b"\n")
 }
 
-/// Writes a metric of the whole screen.
+/// Appends a metric of the whole screen: its two lines of comment, and its one sample.
 #[tactic(auto, unfolding(crate::specs::Metrics::whole_text))]
 fn put_whole(
     text: &mut Vec<u8>,
@@ -159,7 +170,7 @@ fn put_whole(
     put(text, b"\n")
 }
 
-/// Returns what an object is.
+/// Returns the word for what an object is, by its number: `domain` or `device`.
 #[tactic(auto, unfolding(crate::specs::Metrics::kind_word))]
 fn kind_of(tree: &Tree, object: u16) -> &'static [u8]
     ensures { result.now ≡ kind_word tree.now object }
@@ -171,7 +182,7 @@ fn kind_of(tree: &Tree, object: u16) -> &'static [u8]
     }
 }
 
-/// Writes what an object is as a label.
+/// Appends the label that says what an object is: `,kind="domain"`.
 #[tactic(auto, unfolding(crate::specs::Metrics::kind_label))]
 fn put_kind(text: &mut Vec<u8>, tree: &Tree, object: u16) -> Result<(), AllocError>
     ensures { OnOk result (text.new.items ≡ text.old.items ++ kind_label tree.now object) }
@@ -179,7 +190,7 @@ fn put_kind(text: &mut Vec<u8>, tree: &Tree, object: u16) -> Result<(), AllocErr
     put_text(text, b",kind=", kind_of(tree, object))
 }
 
-/// Writes the station of a domain as a label.
+/// Appends the label of a domain's station: `,station="B"`. Appends nothing if the tree has no such domain.
 fn put_station(text: &mut Vec<u8>, tree: &Tree, domain: u16) -> Result<(), AllocError>
     ensures { OnOk result (text.new.items ≡ text.old.items ++ station_label tree.now domain) }
 {
@@ -189,7 +200,7 @@ fn put_station(text: &mut Vec<u8>, tree: &Tree, domain: u16) -> Result<(), Alloc
     }
 }
 
-/// Writes the name of the states' metric, and what an object is and is called as labels.
+/// Appends the front of an object's sample: `smi_object_state{object="TPC",kind="domain"`.
 #[tactic(auto, unfolding(crate::specs::Metrics::object_labels))]
 fn put_object(text: &mut Vec<u8>, tree: &Tree, object: u16) -> Result<(), AllocError>
     ensures { OnOk result (text.new.items ≡ text.old.items ++ object_labels tree.now object) }
@@ -203,7 +214,7 @@ fn put_object(text: &mut Vec<u8>, tree: &Tree, object: u16) -> Result<(), AllocE
     put_kind(text, tree, object)
 }
 
-/// Writes the sample of a state in which an object is.
+/// Appends the sample that says in which state an object is.
 fn put_state(text: &mut Vec<u8>, tree: &Tree, object: u16, state: u16) -> Result<(), AllocError>
     ensures { OnOk result (text.new.items ≡ text.old.items ++ in_state_sample tree.now object state) }
 {
@@ -212,6 +223,7 @@ fn put_state(text: &mut Vec<u8>, tree: &Tree, object: u16, state: u16) -> Result
     put(text, b"} 1\n")
 }
 
+/// Appends the sample of an object's state, or nothing if no state was shown.
 fn put_seen(
     text: &mut Vec<u8>,
     tree: &Tree,
@@ -226,6 +238,7 @@ fn put_seen(
     }
 }
 
+/// Appends the sample of a domain's metric, or nothing if the domain was never heard.
 fn put_heard(
     text: &mut Vec<u8>,
     tree: &Tree,
@@ -247,7 +260,7 @@ fn put_heard(
     put(text, b"\n")
 }
 
-/// The states of a picture's objects.
+/// Lists the samples of all objects' states.
 #[derive(Clone, Copy)]
 struct States<'a> {
     tree: &'a Tree,
@@ -265,7 +278,7 @@ impl<'a> Listing for States<'a> {
     }
 }
 
-/// A metric of a picture's domains.
+/// Lists the samples of one metric of all domains.
 #[derive(Clone, Copy)]
 struct Metrics<'a> {
     tree: &'a Tree,
@@ -285,13 +298,14 @@ impl<'a> Listing for Metrics<'a> {
     }
 }
 
-/// Writes a metric with its samples.
+/// Appends a metric of the domains, with its samples.
 #[tactic(auto, unfolding(crate::specs::Metrics::metric_text))]
 fn put_metric(
     text: &mut Vec<u8>,
     tree: &Tree,
     picture: &Picture,
     metric: Metric,
+    /// The time of the picture, in milliseconds since the screen began.
     now: u64,
 ) -> Result<(), AllocError>
     ensures { OnOk result (text.new.items ≡ text.old.items ++ metric_text tree.now picture.now metric now) }
@@ -306,7 +320,7 @@ fn put_metric(
     put_listed(text, b"", &metrics, tree.domain_count())
 }
 
-/// Writes how many pictures there were, and how many domains there are.
+/// Appends the three metrics of the whole screen.
 fn put_screen(text: &mut Vec<u8>, tree: &Tree, figures: ScreenFigures) -> Result<(), AllocError>
     ensures { OnOk result (text.new.items ≡ text.old.items ++ screen_text tree.now figures) }
 {
@@ -334,7 +348,7 @@ fn put_screen(text: &mut Vec<u8>, tree: &Tree, figures: ScreenFigures) -> Result
     Ok(())
 }
 
-/// Writes the states of all objects.
+/// Appends the metric of the objects' states, with its samples.
 fn put_states(text: &mut Vec<u8>, tree: &Tree, picture: &Picture) -> Result<(), AllocError>
     ensures { OnOk result (text.new.items ≡ text.old.items ++ states_text tree.now picture.now) }
 {
@@ -348,7 +362,7 @@ fn put_states(text: &mut Vec<u8>, tree: &Tree, picture: &Picture) -> Result<(), 
     Ok(())
 }
 
-/// Writes the metrics of all domains.
+/// Appends all metrics of the domains.
 fn put_metrics(
     text: &mut Vec<u8>,
     tree: &Tree,
@@ -367,7 +381,7 @@ fn put_metrics(
 
 /// Writes all metrics of a picture, with the figures of its screen.
 ///
-/// It fails only if memory ran out, which tests alone see. No clause names `alloc`, from which memory comes.
+/// Fails only if memory is refused (tested, not proved). No clause names `alloc`, from which memory comes.
 pub fn write_metrics(
     alloc: Global,
     tree: &Tree,

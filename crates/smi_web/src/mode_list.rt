@@ -1,4 +1,6 @@
-//! The mode of each child that the console told.
+//! The mode of each child of a node's domains, as the node's console told it. `order_relay.rt` keeps the list and
+//! passes the lines of the console on to it; `orders_json.rt` shows it to pages, which ask before a command that a
+//! silent station would hold up. docs/FORMATS.md, "Orders from the page", says what a page is told of modes.
 
 ghost use Rattle.std.specs.Prelude.{◌≡◌, ◌≤◌, ◌<◌, length, OnErr, OnOk};
 ghost use Rattle.smi_web.specs.ModeList as spec;
@@ -9,18 +11,21 @@ use std::alloc::{AllocError, Global};
 use std::marker::Model;
 use std::mem::replace;
 
-/// The most children whose modes are kept. A tree has no more domains than that.
+/// The most children whose modes are kept. A tree has at most 128 domains, so no child of an honest console is left
+/// out. docs/FORMATS.md, "Orders from the page", and `specs/ModeList` have the number too.
 const MOST_MODES: usize = 256;
 
-/// The most bytes of a child and its mode.
+/// The most bytes of a child and its mode. A longer line is left out. A node's line of a mode is shorter than 30 bytes.
 const MOST_BYTES: usize = 200;
 
 /// The modes that a console told: a child and its mode each, as `TRK manual`.
 ///
-/// Contracts see those of the last whole answer, and those that have come of the answer under way.
+/// Contracts see those of the last whole answer, and those that have come of the answer that is still coming.
 #[derive(Drop)]
 pub(crate) struct ModeList {
+    /// The modes of the last whole answer.
     known: Vec<Bytes>,
+    /// The modes that have come of an answer which has not ended.
     coming: Vec<Bytes>,
 }
 
@@ -39,7 +44,7 @@ impl ModeList {
     ghost use Rattle.std.specs.Prelude.{◌≡◌, ◌≤◌, length, OnErr, OnOk};
     ghost use Rattle.smi_web.specs.ModeList as spec;
 
-    /// Makes a list of which nothing is known.
+    /// Makes an empty list.
     pub(crate) fn new(alloc: Global) -> ModeList
         ensures { result ≡ spec.nothing }
     {
@@ -64,7 +69,7 @@ impl ModeList {
         self.coming.clear();
     }
 
-    /// Forgets all modes.
+    /// Forgets all modes, because the connection has ended.
     pub(crate) fn forget(&mut self)
         ensures { self.new ≡ spec.nothing }
     {
@@ -72,14 +77,14 @@ impl ModeList {
         self.begin();
     }
 
-    /// Returns true if the mode of one more child can be kept.
+    /// Returns true if this child and its mode can be kept: there is room, and the text is short and plain.
     fn can_keep(&self, mode: &[u8]) -> bool
         ensures { result ≡ spec.can_keep self.now mode.now }
     {
         self.coming.len() < MOST_MODES && mode.len() <= MOST_BYTES && is_all_plain(mode)
     }
 
-    /// Adds the mode of one more child to those that have come, if it can be kept.
+    /// Adds a child and its mode to those that have come. Adds nothing if it can't be kept.
     fn add(&mut self, alloc: Global, mode: &[u8]) -> Result<(), AllocError>
         ensures ok { OnOk result (self.new ≡ spec.with_mode self.old mode.now) }
         ensures err { OnErr result (self.new ≡ self.old) }
@@ -92,16 +97,17 @@ impl ModeList {
         Ok(())
     }
 
-    /// Ends an answer: what has come of it is what is known now.
+    /// Ends an answer: from now on what has come of it is what is known.
     fn end(&mut self, alloc: Global)
         ensures { self.new ≡ spec.ended self.old }
     {
         self.known = replace(&mut self.coming, Vec::new(alloc));
     }
 
-    /// Handles a line of the answer, without its tag: the mode of a child, or the end. Any other changes nothing.
+    /// Handles a line of the console's answer, without its tag: `mode TRK manual`, or the end, `modes 12`. Any other
+    /// line changes nothing.
     ///
-    /// It fails only if memory ran out, which tests alone see, and changes nothing then.
+    /// Fails only if memory is refused (tested, not proved), and changes nothing then.
     pub(crate) fn receive(&mut self, alloc: Global, text: &[u8]) -> Result<(), AllocError>
         ensures ok { OnOk result (self.new ≡ spec.told self.old text.now) }
         ensures err { OnErr result (self.new ≡ self.old) }

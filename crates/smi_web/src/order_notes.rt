@@ -1,4 +1,6 @@
-//! What is new among the orders of a page, for the history.
+//! Makes the history's notes of what a page has done: orders that were given, how they ended, and alarms that were
+//! acknowledged. `service.rt` calls `notes_of_page` at each look at the picture. docs/FORMATS.md, "The history of a
+//! screen", fixes the texts `given`, `ended` and `acknowledged`, which pages read.
 
 ghost use Rattle.std.specs.Prelude.{◌≡◌, ◌++◌, ◌∷◌, [], IfOk, OnOk};
 ghost use Rattle.std.specs.List.{flat_map};
@@ -10,15 +12,18 @@ use crate::relayed_order::{RelayedOrder, Reply};
 use smi_history::{HistoryNote, LookTime, clock_at, is_new, push_note, put, put_number};
 use std::alloc::{AllocError, Global};
 
-/// A time, and since when something is new.
+/// What is new: what has a time from `from` on and before the look.
 #[derive(Clone, Copy)]
 struct Since {
     alloc: Global,
+    /// The time of the look before, in milliseconds since the screen began.
     from: u64,
+    /// The time of this look.
     moment: LookTime,
 }
 
-/// Adds something of a time of the screen, if it is new then: words, a number and a text.
+/// Adds a note with a word, a number and a text, if its time `at` is new. `at` is in milliseconds since the screen
+/// began.
 fn add_if_new(
     notes: &mut Vec<HistoryNote>,
     since: Since,
@@ -77,7 +82,7 @@ fn add_order(
     add_end(notes, since, order.number, &order.answer)
 }
 
-/// Adds a word and a text, of a time of the screen.
+/// Adds a note with a word and a text, of the time `at` in milliseconds since the screen began.
 fn add_worded(
     notes: &mut Vec<HistoryNote>,
     since: Since,
@@ -93,7 +98,8 @@ fn add_worded(
     push_note(notes, clock_at(since.moment, at), line)
 }
 
-/// Returns the word before an alarm that was acknowledged.
+/// Returns the word with which the note of an acknowledged alarm begins. It is a function of its own, because its proof
+/// unfolds the definition of that word.
 #[tactic(auto, unfolding(crate::specs::OrderNotes::acknowledged_word))]
 fn acknowledged_word() -> &'static [u8]
     ensures { result.now ≡ spec.acknowledged_word }
@@ -123,7 +129,7 @@ fn add_alarm(
     }
 }
 
-/// Adds what is new of all orders.
+/// Adds the notes of all orders that are new.
 fn add_orders(
     notes: &mut Vec<HistoryNote>,
     since: Since,
@@ -138,7 +144,7 @@ fn add_orders(
     Ok(())
 }
 
-/// Adds all alarms whose acknowledgement is new.
+/// Adds the notes of all acknowledgements that are new.
 fn add_alarms(
     notes: &mut Vec<HistoryNote>,
     since: Since,
@@ -153,7 +159,8 @@ fn add_alarms(
     Ok(())
 }
 
-/// Returns what is new since a time of the screen among the orders of its page and the alarms that were acknowledged.
+/// Returns the notes of what is new since the look at `from`: orders of the page, their answers, and acknowledged
+/// alarms. None of them if orders may not be given.
 pub(crate) fn notes_of_page(
     alloc: Global,
     orders: &Option<PageOrders>,

@@ -1,4 +1,7 @@
-//! The orders that were given from a page: those that wait, and the last of those that do not.
+//! Relays the orders of a page to a node's console, and keeps them with their answers. `routing.rt` asks it whether an
+//! order may be given, `service.rt` gives it orders, and `crates/smi_screen/src/console.rt` sends its bytes and hands
+//! it the console's lines. Each order is sent once, in order, or is lost with its connection: docs/FORMATS.md, "Orders
+//! from the page", promises it.
 
 ghost use Rattle.std.specs.Prelude.{◌≡◌, ◌≤◌, ◌<◌, true, length, vec_capacity, IfSome, OnErr, OnOk};
 ghost use Rattle.smi_web.specs.RelayedOrder.{answered};
@@ -13,16 +16,18 @@ use smi_tree::Tree;
 use std::alloc::{AllocError, Global};
 use std::marker::Model;
 
-/// The most orders that are kept: all that wait, and the newest of the others.
+/// The most orders that are kept: all that wait, and the newest of the others. While this many wait, no further one is
+/// taken. docs/FORMATS.md, "Orders from the page", and `specs/OrderRelay` have the number too.
 pub const MOST_ORDERS: usize = 64;
 
-/// No order is taken while more than this many bytes are to be sent.
+/// No order is taken while more bytes than this wait to be sent, so that a console which reads nothing does not make
+/// them grow. The answer to a page is `too many orders wait` then.
 pub const MOST_UNSENT: usize = 8_192;
 
-/// The line that asks for the modes. No order has its tag, because the tags of orders are numbers.
+/// The line that asks the console for the modes. No order has its tag, because the tags of orders are numbers.
 const MODES_LINE: &[u8] = b"@modes modes\n";
 
-/// Why an order may be given, or not.
+/// Whether an order may be given now, and if not, why.
 #[derive(Clone, Copy, PartialEq, Eq)]
 pub enum Admission {
     /// It may be given.
@@ -31,7 +36,7 @@ pub enum Admission {
     NoOrder,
     /// There is no connection with a console.
     ConsoleDown,
-    /// Too many wait.
+    /// Too many orders wait, or too many bytes are not sent.
     QueueFull,
 }
 
@@ -42,11 +47,17 @@ pub enum Admission {
 #[derive(Drop)]
 pub struct OrderRelay {
     alloc: Global,
+    /// The orders that are kept, the oldest first.
     orders: Vec<RelayedOrder>,
+    /// The number of the next order, from 1 at each start of the screen. No number is used twice.
     next: u64,
+    /// The number of the first order that is, or will be, given on this connection. Earlier ones no longer wait.
     first: u64,
+    /// The bytes that are to be sent to the console.
     unsent: Vec<u8>,
+    /// True while there is a connection with the console.
     is_open: bool,
+    /// The modes of the children, as the console told them.
     modes: ModeList,
 }
 
@@ -68,7 +79,7 @@ impl Model for OrderRelay {
     ghost invariant = { λ r. length r.orders.items ≤ most_orders };
 }
 
-/// Returns the place of the oldest order that does not wait. Those before the order `first` wait no more.
+/// Returns the index of the oldest order that does not wait. None if all wait.
 fn first_over(orders: &[RelayedOrder], first: u64) -> Option<usize>
     ensures place { result ≡ spec.first_over first orders.now }
     ensures within { IfSome result (λ i. i < length orders.now) }
@@ -90,7 +101,7 @@ fn make_room(orders: &mut Vec<RelayedOrder>, first: u64)
     }
 }
 
-/// Answers the order at this place by a line that came now.
+/// Sets the answer of the order at this index to a line that came at the time `now`.
 fn answer_at(
     alloc: Global,
     orders: &mut [RelayedOrder],
@@ -129,7 +140,7 @@ impl OrderRelay {
         }
     }
 
-    /// Returns true if there is a connection.
+    /// Returns true if there is a connection with the console.
     pub fn is_open(&self) -> bool
         ensures { result ≡ self.now.is_open }
     {
@@ -144,14 +155,15 @@ impl OrderRelay {
         self.orders.as_slice()
     }
 
-    /// Returns true if an order waits for its answer. One that does not, and has none, was lost with its connection.
+    /// Returns true if an order waits for its answer. An order that does not wait and has no answer was lost with its
+    /// connection.
     pub fn is_waiting(&self, order: &RelayedOrder) -> bool
         ensures { result ≡ spec.is_waiting self.now order.now }
     {
         order.is_waiting(self.first)
     }
 
-    /// Returns true if one more order could be taken.
+    /// Returns true if one more order can be taken.
     fn has_room(&self) -> bool
         ensures { result ≡ spec.has_room self.now }
     {
@@ -161,7 +173,7 @@ impl OrderRelay {
                 || first_over(self.orders.as_slice(), self.first).is_some())
     }
 
-    /// Returns whether a line may be given as an order.
+    /// Returns whether a line may be given as an order now, or why not.
     pub fn admission(&self, tree: &Tree, line: &[u8]) -> Admission
         ensures { result ≡ spec.admission_of tree.now self.now line.now }
     {
@@ -176,11 +188,11 @@ impl OrderRelay {
         }
     }
 
-    /// Gives an order now, if there is room: it is one order more, and its line, after its tag, the last that is
-    /// to be sent. If a name follows the order in the line, a remark that tells it is sent before. If there is no room
-    /// nothing changes.
+    /// Gives an order at the time `now`, in milliseconds since the screen began. Its line is appended to the bytes that
+    /// are to be sent, after its tag: `@7 order ANN take TRK`. If a name follows the order in the line, a remark that
+    /// tells it is appended before: `# @7 name MARIA`. Changes nothing if there is no room.
     ///
-    /// It fails only if memory ran out, which tests alone see, and changes nothing then.
+    /// Fails only if memory is refused (tested, not proved), and changes nothing then.
     pub fn give(&mut self, line: &[u8], now: u64) -> Result<(), AllocError>
         ensures ok { OnOk result (self.new ≡ spec.given self.old line.now now) }
         ensures err { OnErr result (self.new ≡ self.old) }
@@ -196,29 +208,32 @@ impl OrderRelay {
         self.next += 1;
         match self.orders.push(order) {
             Ok(()) => Ok(()),
+            // `reserve` has made room for one.
             Err(_) => unreachable!(),
         }
     }
 
-    /// Returns the bytes that are to be sent.
+    /// Returns the bytes that are to be sent to the console.
     pub fn unsent(&self) -> &[u8]
         ensures { result.now ≡ self.now.unsent }
     {
         self.unsent.as_slice()
     }
 
-    /// Drops the first `count` of them, because they were sent.
+    /// Drops the first `count` bytes that are to be sent, or all if there are no more. The caller does so once they
+    /// were sent.
     pub fn consume(&mut self, count: usize)
         ensures { self.new ≡ spec.sent count self.old }
     {
         if count >= self.unsent.len() {
             self.unsent.clear();
         } else {
+            // The drained bytes are dropped: they were sent.
             let _ = self.unsent.drain(..count);
         }
     }
 
-    /// Returns the place of the order that a line answers, if any.
+    /// Returns the index of the order that a line of the console answers, if any.
     fn place_of(&self, line: &[u8]) -> Option<usize>
         ensures place { result ≡ spec.place_of self.now line.now }
         ensures within { IfSome result (λ i. i < length self.now.orders) }
@@ -229,7 +244,7 @@ impl OrderRelay {
             .position(|order| order.is_answered_by(first, line))
     }
 
-    /// Answers the order of the tag with which a line begins by what follows the tag. A line that answers none changes
+    /// Answers the order with whose tag a line begins, by what follows the tag. A line that answers none changes
     /// nothing.
     fn answer_by(&mut self, line: &[u8], now: u64) -> Result<(), AllocError>
         ensures ok { OnOk result (self.new ≡ spec.answered self.old line.now now) }
@@ -241,10 +256,10 @@ impl OrderRelay {
         }
     }
 
-    /// Handles a line that the console has said now: what follows its tag tells modes, or is the answer to the order of
-    /// that tag. Any other line changes nothing.
+    /// Handles a line that the console has sent, at the time `now`: modes if its tag is `@modes`, and otherwise the
+    /// answer to the order with its tag. Any other line changes nothing.
     ///
-    /// It fails only if memory ran out, which tests alone see, and changes nothing then.
+    /// Fails only if memory is refused (tested, not proved), and changes nothing then.
     pub fn receive_line(&mut self, line: &[u8], now: u64) -> Result<(), AllocError>
         ensures ok { OnOk result (self.new ≡ spec.heard self.old line.now now) }
         ensures err { OnErr result (self.new ≡ self.old) }
@@ -255,7 +270,7 @@ impl OrderRelay {
         }
     }
 
-    /// Returns in which mode each child is, as `TRK manual`: the last whole answer of the console on this connection.
+    /// Returns the mode of each child, as `TRK manual`: the last whole answer of the console on this connection.
     pub fn modes(&self) -> &[Bytes]
         ensures items { result.now ≡ self.now.modes.known }
         ensures most { length result.now ≤ most_modes }
@@ -263,9 +278,9 @@ impl OrderRelay {
         self.modes.known()
     }
 
-    /// Asks the console in which mode each child is, if there is a connection and nothing else is to be sent.
+    /// Asks the console for the mode of each child, if there is a connection and nothing else is to be sent.
     ///
-    /// It fails only if memory ran out, which tests alone see, and changes nothing then.
+    /// Fails only if memory is refused (tested, not proved), and changes nothing then.
     pub fn ask_modes(&mut self) -> Result<(), AllocError>
         ensures ok { OnOk result (self.new ≡ spec.asked self.old) }
         ensures err { OnErr result (self.new ≡ self.old) }
@@ -277,7 +292,7 @@ impl OrderRelay {
         Ok(())
     }
 
-    /// Notes that there is a connection now.
+    /// Notes that there is a connection with the console now.
     pub fn open(&mut self)
         ensures { self.new ≡ spec.opened self.old }
     {

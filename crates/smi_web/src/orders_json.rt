@@ -1,4 +1,6 @@
-//! The orders that were given from a page, as JSON.
+//! Writes the orders of a page, the modes of children and the acknowledged alarms as JSON, the answer to `GET
+//! /api/orders`. `snapshot.rt` calls `write_orders`. docs/FORMATS.md, "Orders from the page", fixes the text, which
+//! `crates/smi_program/page/orders` reads. An *errand*, in names of this file, is an order with what became of it.
 
 ghost use Rattle.std.specs.Prelude.{◌≡◌, ◌≤◌, ◌++◌, length, IfOk, OnOk, option_map};
 ghost use Rattle.smi_web.specs.ModeList.{most_modes};
@@ -32,7 +34,7 @@ use bytes::Bytes;
 use smi_history::{put, put_number};
 use std::alloc::{AllocError, Global};
 
-/// Returns when an order was answered; now, if it was not.
+/// Returns when an order was answered; `now` if it was not. Times are in milliseconds since the screen began.
 fn end_of(order: &RelayedOrder, now: u64) -> u64
     ensures { result ≡ end_of order.now now }
 {
@@ -42,14 +44,14 @@ fn end_of(order: &RelayedOrder, now: u64) -> u64
     }
 }
 
-/// Returns for how many whole seconds an order waited, until now at most.
+/// Returns for how many whole seconds an order waited, or has waited until now.
 fn seconds(order: &RelayedOrder, now: u64) -> u64
     ensures { result ≡ seconds order.now now }
 {
     end_of(order, now).saturating_sub(order.given) / 1_000
 }
 
-/// Writes a code, and what it means.
+/// Appends a code and what it means: `,"code":0,"words":"done"`, or `null` for both if there is none.
 #[tactic(auto, unfolding(crate::specs::OrdersJson::code_text))]
 fn put_code(text: &mut Vec<u8>, code: Option<u64>) -> Result<(), AllocError>
     ensures { OnOk result (text.new.items ≡ text.old.items ++ code_text code) }
@@ -63,7 +65,8 @@ fn put_code(text: &mut Vec<u8>, code: Option<u64>) -> Result<(), AllocError>
     }
 }
 
-/// Writes what was said to an order of this line.
+/// Appends the answer to the order of this line, with its code and what that means, or `null` for all three if there is
+/// none.
 #[tactic(auto, unfolding(crate::specs::OrdersJson::answer_text))]
 fn put_answer(text: &mut Vec<u8>, line: &[u8], answer: &Option<Reply>) -> Result<(), AllocError>
     ensures { OnOk result (text.new.items ≡ text.old.items ++ answer_text line.now answer.now) }
@@ -77,7 +80,7 @@ fn put_answer(text: &mut Vec<u8>, line: &[u8], answer: &Option<Reply>) -> Result
     }
 }
 
-/// Writes who has given an order.
+/// Appends who has given an order: `,"by":"MARIA"`, or `null` if the page did not say so.
 #[tactic(auto, unfolding(crate::specs::OrdersJson::by_text))]
 fn put_by(text: &mut Vec<u8>, name: &Option<Bytes>) -> Result<(), AllocError>
     ensures { OnOk result (text.new.items ≡ text.old.items ++ by_text name.now) }
@@ -88,7 +91,7 @@ fn put_by(text: &mut Vec<u8>, name: &Option<Bytes>) -> Result<(), AllocError>
     }
 }
 
-/// Writes an order, its number, and who has given it.
+/// Appends the front of an order: its number, its line, and who has given it.
 #[tactic(auto, unfolding(crate::specs::OrdersJson::given_text))]
 fn put_given(text: &mut Vec<u8>, order: &RelayedOrder) -> Result<(), AllocError>
     ensures { OnOk result (text.new.items ≡ text.old.items ++ given_text order.now) }
@@ -98,7 +101,7 @@ fn put_given(text: &mut Vec<u8>, order: &RelayedOrder) -> Result<(), AllocError>
     put_by(text, &order.name)
 }
 
-/// Writes for how long it waited or waits, and whether it does.
+/// Appends for how many seconds an order waited or waits, and whether it still does: `,"seconds":2,"waits":false`.
 fn put_waiting(text: &mut Vec<u8>, seconds: u64, waits: bool) -> Result<(), AllocError>
     ensures { OnOk result (text.new.items ≡ text.old.items ++ waiting_text seconds waits) }
 {
@@ -106,6 +109,7 @@ fn put_waiting(text: &mut Vec<u8>, seconds: u64, waits: bool) -> Result<(), Allo
     put_flag(text, b",\"waits\":", waits)
 }
 
+/// Appends an order and what became of it.
 #[tactic(auto, unfolding(crate::specs::OrdersJson::errand_text))]
 fn put_errand(
     text: &mut Vec<u8>,
@@ -121,14 +125,15 @@ fn put_errand(
     put(text, b"}")
 }
 
-/// The orders of a relay, looked at now.
+/// Lists the orders of a relay, as they are at the time `now`.
 #[derive(Clone, Copy)]
 struct Errands<'a> {
     relay: &'a OrderRelay,
+    /// In milliseconds since the screen began.
     now: u64,
 }
 
-/// Returns the order of a number among these.
+/// Returns the order at a place among these, from 1. None if there is none.
 fn errand_at(orders: &[RelayedOrder], number: u16) -> Option<&RelayedOrder>
     ensures { option_map (λ e. e.now) result ≡ entry orders.now number }
 {
@@ -153,9 +158,11 @@ fn count_of(orders: &[RelayedOrder]) -> u16
     requires { length orders.now ≤ most_orders }
     ensures { result ≡ length orders.now }
 {
+    // At most `MOST_ORDERS`, which is 64.
     orders.len() as u16
 }
 
+/// Appends the list of all orders. The caller closes it.
 fn put_orders(text: &mut Vec<u8>, relay: &OrderRelay, now: u64) -> Result<(), AllocError>
     ensures { OnOk result (text.new.items ≡ text.old.items ++ errands_text relay.now now) }
 {
@@ -164,13 +171,13 @@ fn put_orders(text: &mut Vec<u8>, relay: &OrderRelay, now: u64) -> Result<(), Al
     Ok(())
 }
 
-/// The modes that a relay knows.
+/// Lists the modes that a relay knows.
 #[derive(Clone, Copy)]
 struct Modes<'a> {
     relay: &'a OrderRelay,
 }
 
-/// Returns the mode of a number among these.
+/// Returns the mode at a place among these, from 1. None if there is none.
 fn mode_at(modes: &[Bytes], number: u16) -> Option<&Bytes>
     ensures { option_map (λ mode. mode.now) result ≡ entry modes.now number }
 {
@@ -195,9 +202,11 @@ fn mode_count(modes: &[Bytes]) -> u16
     requires { length modes.now ≤ most_modes }
     ensures { result ≡ length modes.now }
 {
+    // At most `MOST_MODES` of `mode_list.rt`, which is 256.
     modes.len() as u16
 }
 
+/// Closes the list of orders, and appends that of modes. The caller closes it.
 fn put_modes(text: &mut Vec<u8>, relay: &OrderRelay) -> Result<(), AllocError>
     ensures { OnOk result (text.new.items ≡ text.old.items ++ modes_text relay.now) }
 {
@@ -206,7 +215,7 @@ fn put_modes(text: &mut Vec<u8>, relay: &OrderRelay) -> Result<(), AllocError>
     Ok(())
 }
 
-/// Writes an alarm that was acknowledged.
+/// Appends an acknowledged alarm: `{"alarm":"device HV ANN","at":61500}`.
 #[tactic(auto, unfolding(crate::specs::OrdersJson::alarm_text))]
 fn put_alarm(text: &mut Vec<u8>, alarm: &Acknowledgement) -> Result<(), AllocError>
     ensures { OnOk result (text.new.items ≡ text.old.items ++ alarm_text alarm.now) }
@@ -216,13 +225,13 @@ fn put_alarm(text: &mut Vec<u8>, alarm: &Acknowledgement) -> Result<(), AllocErr
     put(text, b"}")
 }
 
-/// The alarms that were acknowledged.
+/// Lists the acknowledged alarms.
 #[derive(Clone, Copy)]
 struct Alarms<'a> {
     acknowledged: &'a Acknowledgements,
 }
 
-/// Returns the alarm of a number among these.
+/// Returns the alarm at a place among these, from 1. None if there is none.
 fn alarm_at(alarms: &[Acknowledgement], number: u16) -> Option<&Acknowledgement>
     ensures { option_map (λ alarm. alarm.now) result ≡ entry alarms.now number }
 {
@@ -247,9 +256,11 @@ fn alarm_count(alarms: &[Acknowledgement]) -> u16
     requires { length alarms.now ≤ most_acknowledged }
     ensures { result ≡ length alarms.now }
 {
+    // At most `MOST_ACKNOWLEDGED`, which is 1,024.
     alarms.len() as u16
 }
 
+/// Closes the list of modes, and appends that of acknowledged alarms. The caller closes it.
 fn put_alarms(text: &mut Vec<u8>, acknowledged: &Acknowledgements) -> Result<(), AllocError>
     ensures { OnOk result (text.new.items ≡ text.old.items ++ alarms_text acknowledged.now) }
 {
@@ -263,6 +274,7 @@ fn put_alarms(text: &mut Vec<u8>, acknowledged: &Acknowledgements) -> Result<(),
     Ok(())
 }
 
+/// Appends the modes that are known and the acknowledged alarms.
 fn put_known(
     text: &mut Vec<u8>,
     relay: &OrderRelay,
@@ -274,10 +286,10 @@ fn put_known(
     put_alarms(text, acknowledged)
 }
 
-/// Writes the orders that were given, the oldest first, the modes that are known, and the alarms that were
-/// acknowledged, in one line of JSON.
+/// Writes the orders that were given, the oldest first, the modes that are known, and the acknowledged alarms, in one
+/// line of JSON. `now` is in milliseconds since the screen began.
 ///
-/// It fails only if memory ran out, which tests alone see. No clause names `alloc`, from which memory comes.
+/// Fails only if memory is refused (tested, not proved). No clause names `alloc`, from which memory comes.
 pub fn write_orders(
     alloc: Global,
     relay: &OrderRelay,

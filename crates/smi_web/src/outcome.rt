@@ -1,4 +1,6 @@
-//! The code of an order in a line of the console, and its meaning.
+//! Finds the code with which an order ended in the console's answer, and says in words what it means, for the page of a
+//! screen. `orders_json.rt` calls it. docs/NUMBERS.md, "How an order ends", fixes the codes, and begins each meaning
+//! with these words; `tools/lunskaf.py` says them too.
 
 ghost use Rattle.std.specs.Prelude.{◌≡◌};
 ghost use Rattle.smi_web.specs.Outcome as spec;
@@ -6,11 +8,11 @@ ghost use Rattle.smi_web.specs.Outcome as spec;
 use smi_history::rest_of;
 use smi_tree::number_within;
 
-/// The most that a code is.
+/// The most that a code is: codes have two digits at most.
 const MOST_CODE: u64 = 99;
 
-/// Returns the code with which an order was answered: after `told` come the words of the order, and then its code.
-/// Nothing where something else was said.
+/// Returns the code with which an order was answered. To the line `order ANN take DCS` the answer `told ANN take DCS 0`
+/// has code 0. None if anything else was answered, as to an `ask` or a `withdraw N`.
 pub fn code_of(line: &[u8], answer: &[u8]) -> Option<u64>
     ensures { result ≡ spec.code_of line.now answer.now }
 {

@@ -1,4 +1,9 @@
-//! The picture as JSON.
+//! Writes the picture, which is all that a screen was shown and told, as JSON: the answer to `GET /api/picture`.
+//! `snapshot.rt` calls `write_picture`, and `changes_json.rt` writes single domains and devices by the same functions.
+//! docs/FORMATS.md, "The picture as JSON", fixes the text, which `crates/smi_program/page/contact.mjs` asks for.
+//!
+//! A `Sight` is the newest state of an object and when it came. A `Hearing` is the newest record of a domain, when it
+//! came first, and when the domain's keeper was last heard.
 
 ghost use Rattle.std.specs.Prelude.{◌≡◌, ◌+◌, ◌++◌, IfOk, OnOk};
 ghost use Rattle.smi_view.specs.Pictured.{object_of};
@@ -24,7 +29,7 @@ use smi_tree::Tree;
 use smi_view::{Hearing, Picture, Sight};
 use std::alloc::{AllocError, Global};
 
-/// Writes a state that was shown.
+/// Appends a state that was shown: `{"state":"READY","boot":1,"sequence":7,"at":5120}`.
 fn put_seen(text: &mut Vec<u8>, tree: &Tree, seen: Sight) -> Result<(), AllocError>
     ensures { OnOk result (text.new.items ≡ text.old.items ++ sight_text tree.now (Some seen)) }
 {
@@ -41,6 +46,7 @@ fn put_seen(text: &mut Vec<u8>, tree: &Tree, seen: Sight) -> Result<(), AllocErr
     put(text, b"}")
 }
 
+/// Appends the newest state of an object, or `null` if none was shown.
 fn put_sight(text: &mut Vec<u8>, tree: &Tree, sight: Option<Sight>) -> Result<(), AllocError>
     ensures { OnOk result (text.new.items ≡ text.old.items ++ sight_text tree.now sight) }
 {
@@ -50,6 +56,7 @@ fn put_sight(text: &mut Vec<u8>, tree: &Tree, sight: Option<Sight>) -> Result<()
     }
 }
 
+/// Appends who holds a domain: `{"operator":"ANN"}`, `{"domain":"DCS"}`, or `null` if it is free.
 fn put_holder(text: &mut Vec<u8>, tree: &Tree, holder: Holder) -> Result<(), AllocError>
     ensures { OnOk result (text.new.items ≡ text.old.items ++ holder_text tree.now holder) }
 {
@@ -67,6 +74,7 @@ fn put_holder(text: &mut Vec<u8>, tree: &Tree, holder: Holder) -> Result<(), All
     }
 }
 
+/// Appends `true` while a domain in this phase works on a command, `false` otherwise.
 fn put_busy(text: &mut Vec<u8>, phase: Phase) -> Result<(), AllocError>
     ensures { OnOk result (text.new.items ≡ text.old.items ++ busy_text phase) }
 {
@@ -76,7 +84,7 @@ fn put_busy(text: &mut Vec<u8>, phase: Phase) -> Result<(), AllocError>
     }
 }
 
-/// Writes who holds a domain and since when.
+/// Appends who holds a domain, and its epoch. It opens the object of the record.
 fn put_grant(text: &mut Vec<u8>, tree: &Tree, record: &Record) -> Result<(), AllocError>
     ensures { OnOk result (text.new.items ≡ text.old.items ++ grant_text tree.now record.now) }
 {
@@ -85,7 +93,7 @@ fn put_grant(text: &mut Vec<u8>, tree: &Tree, record: &Record) -> Result<(), All
     put_number(text, b",\"epoch\":", record.epoch)
 }
 
-/// Writes the last command of a domain, and whether it has ended.
+/// Appends the number of a domain's last command, whether it is at work, and its outcome.
 fn put_last(text: &mut Vec<u8>, record: &Record) -> Result<(), AllocError>
     ensures { OnOk result (text.new.items ≡ text.old.items ++ last_text record.now) }
 {
@@ -95,6 +103,7 @@ fn put_last(text: &mut Vec<u8>, record: &Record) -> Result<(), AllocError>
     put_number(text, b",\"outcome\":", u64::from(record.outcome))
 }
 
+/// Appends the newest record of a domain, or `null` if none was told.
 fn put_hearing(text: &mut Vec<u8>, tree: &Tree, hearing: &Option<Hearing>) -> Result<(), AllocError>
     ensures { OnOk result (text.new.items ≡ text.old.items ++ hearing_text tree.now hearing.now) }
 {
@@ -110,7 +119,7 @@ fn put_hearing(text: &mut Vec<u8>, tree: &Tree, hearing: &Option<Hearing>) -> Re
     }
 }
 
-/// Writes what is known of a domain.
+/// Appends what is known of a domain: its name, the state of its unit, and its record.
 pub(crate) fn put_domain(
     text: &mut Vec<u8>,
     tree: &Tree,
@@ -127,7 +136,7 @@ pub(crate) fn put_domain(
     put(text, b"}")
 }
 
-/// The domains of a picture.
+/// Lists the domains of a picture.
 #[derive(Clone, Copy)]
 struct Domains<'a> {
     tree: &'a Tree,
@@ -144,14 +153,14 @@ impl<'a> Listing for Domains<'a> {
     }
 }
 
-/// Returns what was seen of a device.
+/// Returns the newest state of a device, by its number from 1. In a picture devices are numbered after all domains.
 pub(crate) fn sight_of_device(tree: &Tree, picture: &Picture, device: u16) -> Option<Sight>
     ensures { result ≡ object_of picture.now (domain_count tree.now + device) }
 {
     picture.object(usize::from(tree.domain_count()) + usize::from(device))
 }
 
-/// Writes what is known of a device.
+/// Appends what is known of a device: its name and its state.
 pub(crate) fn put_device(
     text: &mut Vec<u8>,
     tree: &Tree,
@@ -166,7 +175,7 @@ pub(crate) fn put_device(
     put(text, b"}")
 }
 
-/// The devices of a picture.
+/// Lists the devices of a picture.
 #[derive(Clone, Copy)]
 struct SeenDevices<'a> {
     tree: &'a Tree,
@@ -183,9 +192,10 @@ impl<'a> Listing for SeenDevices<'a> {
     }
 }
 
-/// Writes the picture in one line of JSON, with its number and the time at which it was looked at.
+/// Writes the picture in one line of JSON. `number` counts the pictures of the screen, from 0 at each start, and `now`
+/// is the time of the picture in milliseconds since then.
 ///
-/// It fails only if memory ran out, which tests alone see. No clause names `alloc`, from which memory comes.
+/// Fails only if memory is refused (tested, not proved). No clause names `alloc`, from which memory comes.
 pub fn write_picture(
     alloc: Global,
     tree: &Tree,

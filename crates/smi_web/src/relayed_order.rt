@@ -1,6 +1,6 @@
-//! An order that was given from a page, and what became of it.
-//!
-//! Only a line that is an order (`is_order_line`) becomes one, so neither the order nor the name has a line feed.
+//! An order that was given from a page, and what became of it. `order_relay.rt` makes one of each line that is an order
+//! (`is_order_line`), so neither the order nor the name has a line feed: what is sent of an order is one line, and a
+//! remark before it if there is a name. docs/FORMATS.md, "Orders from the page", fixes both.
 
 ghost use Rattle.std.specs.Prelude.{◌≡◌, ◌++◌, drop, IfOk, OnOk, option_map};
 ghost use Rattle.smi_web.specs.RelayedOrder as spec;
@@ -14,32 +14,35 @@ use std::io::Write;
 /// An order that was given from a page.
 #[derive(Drop)]
 pub struct RelayedOrder {
-    /// Its number, from 1, which no other has.
+    /// Its number, from 1 at each start of the screen, which no other order has.
     pub number: u64,
-    /// The tag with which its line begins, and so does its answer.
+    /// The tag of its line and of its answer, with a space after it: `@7 `.
     pub tag: Bytes,
-    /// The order, as it was given, without the name.
+    /// The order as it was given, without ` # NAME`.
     pub line: Bytes,
-    /// Who has given it, if the page said so.
+    /// Who has given it, if the page said so. Nobody checks it.
     pub name: Option<Bytes>,
     /// When it was given, in milliseconds since the screen began.
     pub given: u64,
-    /// What the console answered; none until it has.
+    /// What the console answered. None until it has.
     pub answer: Option<Reply>,
 }
 
-/// What the console said to an order, without the tag, and when.
+/// What the console answered to an order, and when.
 #[derive(Drop)]
 pub struct Reply {
+    /// The answer without the tag, or `?` if it was no plain text.
     pub text: Bytes,
+    /// When it came, in milliseconds since the screen began.
     pub at: u64,
 }
 
-/// Returns the tag of the order of this number.
+/// Returns the tag of the order of this number, with a space after it: `@7 `.
 fn tag_of(alloc: Global, number: u64) -> Result<Bytes, AllocError>
     ensures { IfOk result (λ tag. tag ≡ spec.tag_of number) }
 {
     let mut text = Vec::from_slice(alloc, b"@")?;
+    // Writing into a Vec fails only if memory is refused.
     write!(text, "{number}").map_err(|_| AllocError)?;
     text.extend_from_slice(b" ")?;
     shared(text)
@@ -55,7 +58,8 @@ fn copied(alloc: Global, name: Option<&[u8]>) -> Result<Option<Bytes>, AllocErro
     }
 }
 
-/// Writes the remark that says who has given the order with a tag, if that is known.
+/// Appends the remark that says who has given the order with a tag: `# @7 name MARIA`, with a line feed. Appends
+/// nothing if that is not known. The tag ends with a space.
 #[tactic(auto, unfolding(crate::specs::RelayedOrder::remark_of))]
 fn put_remark(text: &mut Vec<u8>, tag: &[u8], name: &Option<Bytes>) -> Result<(), AllocError>
     ensures { OnOk result (text.new.items ≡ text.old.items ++ spec.remark_of tag.now name.now) }
@@ -72,14 +76,14 @@ fn put_remark(text: &mut Vec<u8>, tag: &[u8], name: &Option<Bytes>) -> Result<()
     }
 }
 
-/// Returns what the console said, if it is plain text.
+/// Returns a text if it is plain, and `?` if not, because nothing is escaped in JSON.
 fn said(text: &[u8]) -> &[u8]
     ensures { result.now ≡ spec.said text.now }
 {
     if is_all_plain(text) { text } else { b"?" }
 }
 
-/// Returns a line without this many of its first bytes.
+/// Returns a line without its first `count` bytes.
 fn behind(line: &[u8], count: usize) -> &[u8]
     ensures { result.now ≡ drop count line.now }
 {
@@ -94,7 +98,7 @@ impl RelayedOrder {
     ghost use Rattle.std.specs.Prelude.{◌≡◌, IfOk};
     ghost use Rattle.smi_web.specs.RelayedOrder as spec;
 
-    /// Returns the order of this number, whose line was given now.
+    /// Makes the order of this number, whose line was given at the time `now`.
     pub(crate) fn new(
         alloc: Global,
         number: u64,
@@ -113,7 +117,7 @@ impl RelayedOrder {
         })
     }
 
-    /// Returns what is sent of it.
+    /// Returns what is sent to the console: the remark if it has a name, and its line after its tag.
     pub(crate) fn sent(&self, alloc: Global) -> Result<Vec<u8>, AllocError>
         ensures { IfOk result (λ text. text.items ≡ spec.sent_of self.now) }
     {
@@ -125,22 +129,22 @@ impl RelayedOrder {
         Ok(text)
     }
 
-    /// Returns true if it has no answer yet, and was given on this connection with the console: the first order that
-    /// was given on it has the number `first`.
+    /// Returns true if it has no answer yet, and was given on the present connection with the console: `first` is the
+    /// number of the first order of that connection.
     pub(crate) fn is_waiting(&self, first: u64) -> bool
         ensures { result ≡ spec.is_waiting first self.now }
     {
         self.answer.is_none() && first <= self.number
     }
 
-    /// Returns true if a line of this connection answers it.
+    /// Returns true if it waits, and a line of the console begins with its tag.
     pub(crate) fn is_answered_by(&self, first: u64, line: &[u8]) -> bool
         ensures { result ≡ spec.is_answered_by first line.now self.now }
     {
         self.is_waiting(first) && line.starts_with(self.tag.as_slice())
     }
 
-    /// Returns the answer that a line is, which came now.
+    /// Returns the answer that a line of the console is, which came at the time `now`.
     pub(crate) fn answer_by(
         &self,
         alloc: Global,

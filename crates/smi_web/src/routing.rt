@@ -1,4 +1,6 @@
-//! The route of a request.
+//! Decides which answer a request gets: `service.rt` calls `route_request`, and fills in the answer of the route. Who
+//! may give orders is decided here: a wrong test here lets other pages order. docs/FORMATS.md, "The screen" and "Orders
+//! from the page", fixes the tests and their order.
 
 ghost use Rattle.std.specs.Prelude.{◌≡◌, bytes_eq, map, option_map};
 ghost use Rattle.std.specs.List.{list_any};
@@ -16,17 +18,21 @@ use std::marker::Model;
 /// The parts of a request that its route depends on.
 #[derive(Drop)]
 pub struct RequestParts<'a> {
+    /// Its method, as `GET`.
     pub method: &'a [u8],
-    /// The value of its `Host`, if it has one.
+    /// The value of its first `Host`. None if it has none.
     pub host: Option<&'a [u8]>,
-    /// True if its target names a host itself.
+    /// True if its target names a host itself, as a request to a proxy does.
     pub is_absolute: bool,
+    /// The path of its target, as `/api/picture`.
     pub path: &'a [u8],
+    /// What follows the `?` of its target. None if there is no `?`.
     pub query: Option<&'a [u8]>,
-    /// The value of its `Origin`, by which a browser says whose page asks, if it has one.
+    /// The value of its first `Origin`, by which a browser says whose page asks. None if it has none.
     pub origin: Option<&'a [u8]>,
-    /// The value of its `Authorization`, if it has one.
+    /// The value of its first `Authorization`, which has to be the key of the page. None if it has none.
     pub key: Option<&'a [u8]>,
+    /// Its body: an order, or an acknowledgement.
     pub body: &'a [u8],
 }
 
@@ -48,51 +54,56 @@ impl<'a> Model for RequestParts<'a> {
     } };
 }
 
-/// The greatest time that a query may have.
+/// The greatest time that a query may have, in milliseconds since the screen began: about 31 years. A greater one gets
+/// the whole picture.
 const MOST_TIME: u64 = 999_999_999_999;
 
-/// The route of a request.
+/// The route of a request: which answer it gets.
 #[derive(Clone, Copy, PartialEq, Eq)]
 pub enum Route {
+    /// The page.
     Page,
+    /// The tree as JSON.
     Tree,
+    /// The whole picture as JSON.
     Picture,
     /// What has changed in the picture since the one that the client has.
     Changes,
+    /// The metrics for Prometheus.
     Metrics,
-    /// The screen runs.
+    /// That the screen runs.
     Health,
-    /// Nothing, because the client has the newest picture.
+    /// Nothing, with status 204, because the client has the newest picture.
     Unchanged,
     /// What became of the orders that were given.
     Orders,
-    /// What this screen has seen.
+    /// What this screen has seen: the entries that the query asks for.
     History,
-    /// The query asks for nothing of the history.
+    /// A refusal: the query for the history is not well formed.
     NoQuery,
-    /// There is no such page.
+    /// A refusal: there is no such page.
     NotFound,
-    /// This screen changes nothing.
+    /// A refusal: the method is one that this screen does not have at that path.
     Change,
-    /// The order is given.
+    /// That the order is on its way. `service.rt` gives it to the relay.
     Given,
-    /// The alarm is acknowledged.
+    /// That the alarm is acknowledged. `service.rt` adds it.
     Acknowledged,
-    /// What is acknowledged is no alarm.
+    /// A refusal: what is acknowledged is no alarm, or by no operator of the tree.
     NoAlarm,
-    /// The order comes from another page than the one that is served here.
+    /// A refusal: the request has no key, or comes from another page than the one that is served here.
     ForeignOrigin,
-    /// The order is none.
+    /// A refusal: the order is none.
     NoOrder,
-    /// There is no connection with the console.
+    /// A refusal: there is no connection with the console.
     ConsoleDown,
-    /// Too many orders wait.
+    /// A refusal: too many orders wait.
     QueueFull,
-    /// The request names another host, as a name that was pointed to this address does.
+    /// A refusal: the request names another host, as it does if another name was made to lead to this address.
     WrongHost,
 }
 
-/// Returns true if a text is there and is this word.
+/// Returns true if there is a text and it is this word.
 fn is_text(text: Option<&[u8]>, word: &[u8]) -> bool
     ensures { result ≡ spec.is_text (option_map (λ t. t.now) text.entry) word.now }
 {
@@ -109,7 +120,7 @@ fn is_among(hosts: &[Vec<u8>], host: &[u8]) -> bool
     hosts.iter().any(|ours| ours.as_slice() == host)
 }
 
-/// Returns true if a host is there and is one of these.
+/// Returns true if there is a host and it is one of these.
 #[tactic(auto, using(crate::proofs::Hosts::any_of_map))]
 fn is_ours(hosts: &[Vec<u8>], host: Option<&[u8]>) -> bool
     ensures { result ≡ spec.is_ours (map (λ h. h.items) hosts.now) (option_map (λ h. h.now) host.entry) }
@@ -127,7 +138,7 @@ fn reads_only(method: &[u8]) -> bool
     method == b"GET".as_slice() || method == b"HEAD".as_slice()
 }
 
-/// Returns what a request has after the `?` of its target, nothing if it has none.
+/// Returns what a request has after the `?` of its target, or an empty text.
 pub(crate) fn query_text(query: Option<&[u8]>) -> &[u8]
     ensures { result.now ≡ spec.query_text (option_map (λ q. q.now) query.entry) }
 {
@@ -137,7 +148,7 @@ pub(crate) fn query_text(query: Option<&[u8]>) -> &[u8]
     }
 }
 
-/// Returns the answer to a request for the history.
+/// Returns the route of a request for the history.
 fn history_route(query: Option<&[u8]>) -> Route
     ensures { result ≡ spec.history_route (option_map (λ q. q.now) query.entry) }
 {
@@ -147,7 +158,7 @@ fn history_route(query: Option<&[u8]>) -> Route
     }
 }
 
-/// Returns the time in `since=TIME`, if a query is that.
+/// Returns the time of a query that is `since=TIME`. None if it is not that, or the time is no number.
 fn time_in(query: &[u8]) -> Option<u64>
     ensures { result ≡ spec.time_in query.now }
 {
@@ -158,7 +169,7 @@ fn time_in(query: &[u8]) -> Option<u64>
     }
 }
 
-/// Returns the answer to a client whose picture was looked at at this time.
+/// Returns the route for a client that has the picture of this time. `now` is the time of the newest picture.
 fn route_since(time: u64, now: u64) -> Route
     ensures { result ≡ spec.route_since time now }
 {
@@ -171,7 +182,8 @@ fn route_since(time: u64, now: u64) -> Route
     }
 }
 
-/// Returns the answer to a request for the picture.
+/// Returns the route of a request for the picture. `version` is the query of a client that has the newest picture, as
+/// `after=310`, and `now` the time of that picture.
 fn picture_route(query: Option<&[u8]>, version: &[u8], now: u64) -> Route
     ensures { result ≡ spec.picture_route (option_map (λ q. q.now) query.entry) version.now now }
 {
@@ -184,7 +196,7 @@ fn picture_route(query: Option<&[u8]>, version: &[u8], now: u64) -> Route
     }
 }
 
-/// Returns what is at a place.
+/// Returns the route of a request that only reads, by its path. Orders are only there if `has_orders`.
 fn place_route(
     path: &[u8],
     query: Option<&[u8]>,
@@ -218,7 +230,8 @@ fn place_route(
     Route::NotFound
 }
 
-/// Returns true if a page of this host asks. A browser says where a page came from, and no page can say otherwise.
+/// Returns true if a page of this host asks: the origin is `http://` and the host. A browser says where a page came
+/// from, and no page can say otherwise.
 fn is_own_page(host: Option<&[u8]>, origin: Option<&[u8]>) -> bool
     ensures { result ≡ spec.is_own_page (option_map (λ h. h.now) host.entry) (option_map (λ o. o.now) origin.entry) }
 {
@@ -230,7 +243,7 @@ fn is_own_page(host: Option<&[u8]>, origin: Option<&[u8]>) -> bool
     }
 }
 
-/// Returns true if the page asks as a proxy serves it, under this origin, if one does.
+/// Returns true if the page asks that a proxy serves: the origin is that of the proxy.
 fn is_proxied_page(proxy: &Option<Bytes>, origin: Option<&[u8]>) -> bool
     ensures { result ≡ spec.is_proxied_page proxy.now (option_map (λ o. o.now) origin.entry) }
 {
@@ -241,6 +254,7 @@ fn is_proxied_page(proxy: &Option<Bytes>, origin: Option<&[u8]>) -> bool
 }
 
 /// Returns true if the page asks that was served with this key, from its own address or under the origin of a proxy.
+/// Both tests keep other pages out: a browser sends neither a header of a page's choice nor a false `Origin` for one.
 fn is_trusted(key: &[u8], proxy: &Option<Bytes>, parts: &RequestParts<'_>) -> bool
     ensures { result ≡ spec.is_trusted key.now proxy.now parts.now }
 {
@@ -248,7 +262,7 @@ fn is_trusted(key: &[u8], proxy: &Option<Bytes>, parts: &RequestParts<'_>) -> bo
         && (is_own_page(parts.host, parts.origin) || is_proxied_page(proxy, parts.origin))
 }
 
-/// Returns the answer to an order of which the relay says so.
+/// Returns the route of an order that the relay admits or does not.
 fn route_by(admission: Admission) -> Route
     ensures { result ≡ spec.route_by admission }
 {
@@ -260,28 +274,28 @@ fn route_by(admission: Admission) -> Route
     }
 }
 
-/// Returns true if a request is at the place where orders are given.
+/// Returns true if the path of a request is that of orders.
 fn is_at_orders(parts: &RequestParts<'_>) -> bool
     ensures { result ≡ spec.is_at_orders parts.now }
 {
     parts.path == b"/api/orders".as_slice()
 }
 
-/// Returns true if a request is at the place where alarms are acknowledged.
+/// Returns true if the path of a request is that of alarms.
 fn is_at_alarms(parts: &RequestParts<'_>) -> bool
     ensures { result ≡ spec.is_at_alarms parts.now }
 {
     parts.path == b"/api/alarms".as_slice()
 }
 
-/// Returns true if a request would change something that a page may change.
+/// Returns true if a request is a POST of an order or of an acknowledgement.
 fn is_posted(parts: &RequestParts<'_>) -> bool
     ensures { result ≡ spec.is_posted parts.now }
 {
     parts.method == b"POST".as_slice() && (is_at_orders(parts) || is_at_alarms(parts))
 }
 
-/// Returns the answer to the page that gives an order, or acknowledges an alarm.
+/// Returns the route of a POST that comes from the page itself.
 fn page_route(orders: &PageOrders, parts: &RequestParts<'_>) -> Route
     ensures { result ≡ spec.page_route orders.now parts.now }
 {
@@ -294,7 +308,7 @@ fn page_route(orders: &PageOrders, parts: &RequestParts<'_>) -> Route
     }
 }
 
-/// Returns the answer to a request that would change something, if orders may be given.
+/// Returns the route of a request that does not only read, if orders may be given.
 fn posted_route(orders: &PageOrders, parts: &RequestParts<'_>) -> Route
     ensures { result ≡ spec.posted_route orders.now parts.now }
 {
@@ -307,7 +321,7 @@ fn posted_route(orders: &PageOrders, parts: &RequestParts<'_>) -> Route
     page_route(orders, parts)
 }
 
-/// Returns the answer to a request that would change something.
+/// Returns the route of a request that does not only read. Without `--orders` it is refused.
 fn change_route(orders: &Option<PageOrders>, parts: &RequestParts<'_>) -> Route
     ensures { result ≡ spec.change_route orders.now parts.now }
 {
@@ -317,13 +331,12 @@ fn change_route(orders: &Option<PageOrders>, parts: &RequestParts<'_>) -> Route
     }
 }
 
-/// Returns the answer to a request, by these tests in their order: the host, the method, the place; of what changes
-/// something, who asks; of an order, whether it is one, and whether it can be sent; of an acknowledgement, whether it
-/// is one.
+/// Returns the route of a request, by these tests in their order: the host, the method, the path. Of a POST it then
+/// tests who asks, and then whether the body is an order that can be sent, or an acknowledgement.
 ///
-/// The hosts are those that are answered. `version` is the query of a client that has the newest picture, and `now` the
-/// time of that picture in milliseconds: who names it has the newest picture too, and who names a time of the two
-/// seconds before is told what has changed.
+/// `hosts` are the hosts that are answered. `version` is the query of a client that has the newest picture, as
+/// `after=310`, and `now` the time of that picture, in milliseconds since the screen began. A client that names either
+/// has the newest picture. One that names a time of the two seconds before is told what has changed.
 pub fn route_request(
     hosts: &[Vec<u8>],
     version: &[u8],

@@ -1,4 +1,7 @@
-//! The service over a snapshot.
+//! Answers HTTP requests from a snapshot, and carries out the two kinds that change something: orders and
+//! acknowledgements. `crates/smi_screen/src/http_listener.rt` calls it for each request, by the `Service` trait of the
+//! HTTP server, and `web_server.rt` there renews what it serves. docs/FORMATS.md, "The screen", fixes statuses, headers
+//! and bodies.
 
 ghost use Rattle.std.specs.Prelude.{◌≡◌, ◌++◌, ◌∷◌, [], codes, option_map, IfOk, IsTrue, OnErr, OnOk};
 ghost use Rattle.http_header.specs.FieldValue.{is_visible_text};
@@ -22,33 +25,39 @@ use smi_tree::Tree;
 use smi_view::Picture;
 use std::alloc::{AllocError, Global};
 
-/// Answers requests from a snapshot.
+/// The HTTP service of a screen.
 #[derive(Drop)]
 pub struct WebService {
-    /// The hosts that it answers to.
+    /// The hosts that it answers to (docs/FORMATS.md, "The screen"). A request for any other is refused.
     pub hosts: Vec<Vec<u8>>,
+    /// The texts that are served.
     pub snapshot: Snapshot,
-    /// The orders that its page may give, if it may.
+    /// The orders of its page. None if the screen was started without `--orders`.
     pub orders: Option<PageOrders>,
-    /// What the screen has seen.
+    /// What the screen has seen, and what was ordered from its page.
     pub history: History,
 }
 
-/// What a page may do: run what is in it, and ask its own host.
+/// The content security policy of the page: it may run what is in it and ask its own host, and no page may frame it.
 const CSP: &str =
     "default-src 'none'; script-src 'unsafe-inline'; style-src 'unsafe-inline'; connect-src 'self'; img-src data:; base-uri 'none'; form-action 'none'; frame-ancestors 'none'";
 
+/// The media type of the page.
 const HTML: &str = "text/html; charset=utf-8";
 
+/// The media type of the tree, the picture, its changes and the orders.
 const JSON: &str = "application/json";
 
+/// The media type of the history: a JSON value on each line.
 const JSON_LINES: &str = "application/x-ndjson";
 
+/// The media type of Prometheus' text format, with the version of that format.
 const METRICS: &str = "text/plain; version=0.0.4; charset=utf-8";
 
+/// The media type of short answers in words.
 const PLAIN: &str = "text/plain; charset=utf-8";
 
-/// Returns the first value of a header, if there is one.
+/// Returns the first value of a header of a request. None if it has none.
 fn field_of(request: &Request<Bytes>, name: HeaderName) -> Option<&[u8]>
     ensures { option_map (λ v. v.now) result ≡ field_of request.now name }
 {
@@ -58,7 +67,7 @@ fn field_of(request: &Request<Bytes>, name: HeaderName) -> Option<&[u8]>
     }
 }
 
-/// Returns what matters of a request.
+/// Returns the parts of a request that its route depends on.
 fn parts_of(request: &Request<Bytes>) -> RequestParts<'_>
     ensures { result ≡ parts_of request.now }
 {
@@ -79,7 +88,7 @@ fn parts_of(request: &Request<Bytes>) -> RequestParts<'_>
     }
 }
 
-/// Adds a header.
+/// Adds a header to an answer.
 fn add(response: &mut Response, name: HeaderName, value: &'static str) -> Result<(), AllocError>
     requires { IsTrue (is_visible_text value.now) }
     ensures status { response.new.status ≡ response.old.status }
@@ -89,7 +98,7 @@ fn add(response: &mut Response, name: HeaderName, value: &'static str) -> Result
     response.add_header(name, HeaderValue::from_static(value))
 }
 
-/// Adds a header whose name is not among those that `http` has.
+/// Adds a header whose name the `http` crate does not have.
 fn add_named(
     response: &mut Response,
     name: &'static str,
@@ -104,7 +113,7 @@ fn add_named(
     add(response, HeaderName::from_static(name), value)
 }
 
-/// Adds the headers that say what becomes of an answer, and what a page may do.
+/// Adds the headers that keep an answer out of caches and frames, and say what a page may do.
 fn add_page_headers(response: &mut Response) -> Result<(), AllocError>
     ensures status { response.new.status ≡ response.old.status }
     ensures headers { OnOk result (fields_of response.new ≡ with_headers (fields_of response.old) page_headers) }
@@ -117,8 +126,7 @@ fn add_page_headers(response: &mut Response) -> Result<(), AllocError>
     add(response, header::CONTENT_SECURITY_POLICY, CSP)
 }
 
-/// Adds the headers that keep pages from elsewhere away: none of them loads an answer, or has the window of the page at
-/// hand.
+/// Adds the headers that keep other pages away: none of them may load an answer, or have the page's window at hand.
 fn add_origin_headers(response: &mut Response) -> Result<(), AllocError>
     ensures status { response.new.status ≡ response.old.status }
     ensures headers { OnOk result (fields_of response.new ≡ with_headers (fields_of response.old) origin_headers) }
@@ -128,7 +136,7 @@ fn add_origin_headers(response: &mut Response) -> Result<(), AllocError>
     add_named(response, "cross-origin-resource-policy", "same-origin")
 }
 
-/// Adds the headers that every answer has.
+/// Adds the headers that every answer has. docs/FORMATS.md, "The screen", promises what they do.
 fn add_security_headers(response: &mut Response) -> Result<(), AllocError>
     ensures status { response.new.status ≡ response.old.status }
     ensures headers { OnOk result (fields_of response.new ≡ with_headers (fields_of response.old) security_headers) }
@@ -138,7 +146,7 @@ fn add_security_headers(response: &mut Response) -> Result<(), AllocError>
     add_origin_headers(response)
 }
 
-/// Fills in a text of this type.
+/// Fills in status, media type and text of an answer.
 fn fill(
     response: &mut Response,
     status: StatusCode,
@@ -155,7 +163,7 @@ fn fill(
     response.body.push(text.clone()?)
 }
 
-/// Fills in words that tell nothing of the detector.
+/// Fills in status and words of an answer that tells nothing of the detector.
 fn fill_plain(
     response: &mut Response,
     status: StatusCode,
@@ -169,7 +177,7 @@ fn fill_plain(
     fill(response, status, PLAIN, &text)
 }
 
-/// Fills in that a query is none.
+/// Fills in the refusal of a query for the history that is not well formed.
 fn refuse_query(response: &mut Response) -> Result<(), AllocError>
     ensures status { OnOk result (response.new.status ≡ 400) }
     ensures headers { OnOk result (fields_of response.new ≡ with_headers (fields_of response.old) plain) }
@@ -184,7 +192,7 @@ fn refuse_query(response: &mut Response) -> Result<(), AllocError>
     )
 }
 
-/// Refuses to change anything.
+/// Fills in the refusal of a method, with the methods that there are.
 fn refuse_change(response: &mut Response) -> Result<(), AllocError>
     ensures status { OnOk result (response.new.status ≡ 405) }
     ensures headers { OnOk result (fields_of response.new
@@ -197,9 +205,10 @@ fn refuse_change(response: &mut Response) -> Result<(), AllocError>
 }
 
 impl WebService {
-    /// Renews the text of what became of the orders that were given, and of the alarms that were acknowledged.
+    /// Renews the text that is served of orders, modes and acknowledged alarms. Does nothing if orders may not be
+    /// given.
     ///
-    /// Its error is that memory was refused: nothing changes then. No clause names `alloc`, from which memory comes.
+    /// Fails if memory is refused, and changes nothing then. No clause names `alloc`, from which memory comes.
     pub fn renew_orders(&mut self, alloc: Global) -> Result<(), AllocError>
         ensures ok { OnOk result (self.new ≡ orders_told self.old) }
         ensures err { OnErr result (self.new ≡ self.old) }
@@ -212,10 +221,10 @@ impl WebService {
         }
     }
 
-    /// Notes in the history what is new in a picture, and which orders and acknowledgements are.
+    /// Adds to the history what is new in a picture, and which orders, answers and acknowledgements are new.
     ///
-    /// It fails only if memory ran out, which tests alone see. Some of what was new may be noted nowhere then. No
-    /// clause names `alloc`, from which memory comes.
+    /// Fails only if memory is refused (tested, not proved). Some of what was new may be noted nowhere then. No clause
+    /// names `alloc`, from which memory comes.
     pub fn look(
         &mut self,
         alloc: Global,
@@ -230,7 +239,8 @@ impl WebService {
         self.history.note_all(notes)
     }
 
-    /// Returns the entries of the history that a query asks for.
+    /// Returns the text of the history's entries that a query asks for, or an empty one if the query is not well
+    /// formed.
     fn history_told(&self, query: Option<&[u8]>) -> Result<Bytes, AllocError>
         ensures { IfOk result (λ told. told ≡ history_told self.now.history (option_map (λ q. q.now) query.entry)) }
     {
@@ -240,7 +250,7 @@ impl WebService {
         }
     }
 
-    /// Returns what is told of the history, if a request asks for it.
+    /// Returns the text of the history if that is the route of a request, and otherwise an empty one.
     fn told(&self, what: Route, query: Option<&[u8]>) -> Result<Bytes, AllocError>
         ensures { IfOk result (λ told. told ≡ told_of self.now what (option_map (λ q. q.now) query.entry)) }
     {
@@ -251,7 +261,7 @@ impl WebService {
         }
     }
 
-    /// Gives an order, if orders may be given.
+    /// Gives an order to the relay, if orders may be given.
     fn give(&mut self, line: &[u8]) -> Result<(), AllocError>
         ensures ok { OnOk result (self.new ≡ left_by route_to.Given self.old line.now) }
         ensures err { OnErr result (self.new ≡ self.old) }
@@ -262,7 +272,7 @@ impl WebService {
         }
     }
 
-    /// Acknowledges an alarm, if orders may be given.
+    /// Adds the acknowledgement of an alarm, if orders may be given.
     fn acknowledge(&mut self, line: &[u8]) -> Result<(), AllocError>
         ensures ok { OnOk result (self.new ≡ left_by route_to.Acknowledged self.old line.now) }
         ensures err { OnErr result (self.new ≡ self.old) }
@@ -273,7 +283,7 @@ impl WebService {
         }
     }
 
-    /// Fills in the answer to a request.
+    /// Fills in the answer of a route. `told` is the text of the history.
     fn answer(&self, what: Route, told: &Bytes, response: &mut Response) -> Result<(), AllocError>
         requires { IsBlank response.old }
         ensures { OnOk result (Answers self.now.snapshot told.now what response.new) }
@@ -345,6 +355,8 @@ impl Service for WebService {
         × Answers old.snapshot (told_of old (route_of old request) (parts_of request).query)
         (route_of old request) response };
 
+    // The answer is filled in before the order is given, so that an order is not given if there is no memory for its
+    // answer.
     fn call(
         &mut self,
         request: &Request<Bytes>,

@@ -1,4 +1,6 @@
-//! The texts of a picture at one moment.
+//! The texts that a screen serves, as they were at one moment. `crates/smi_screen/src/web_server.rt` renews them five
+//! times a second, so that a request only hands a text out and many clients cost little more than one. `service.rt`
+//! serves them. docs/FORMATS.md, "The screen", fixes the texts.
 
 ghost use Rattle.std.specs.Prelude.{◌≡◌, IfOk};
 ghost use Rattle.smi_web.specs.Snapshot.{version_of};
@@ -17,28 +19,33 @@ use smi_view::Picture;
 use std::alloc::{AllocError, Global};
 use std::io::Write;
 
-/// The texts that are served.
+/// The texts that are served. A copy of a text shares its bytes.
 #[derive(Drop)]
 pub struct Snapshot {
-    /// The query of one who has this picture already.
+    /// The query of a client that has this picture already: `after=310`.
     pub version: Bytes,
+    /// The page, with its key if orders may be given.
     pub page: Bytes,
+    /// The tree as JSON. It stays the same while the screen runs.
     pub tree: Bytes,
+    /// The picture as JSON.
     pub picture: Bytes,
-    /// When the picture was looked at, in milliseconds since the start.
+    /// The time of the picture, in milliseconds since the screen began.
     pub now: u64,
-    /// What has changed in the picture in the two seconds before it.
+    /// What has changed in the picture in the two seconds before it, as JSON.
     pub changes: Bytes,
+    /// The metrics of the picture, in Prometheus' text format.
     pub metrics: Bytes,
-    /// The orders that were given from the page, and the alarms that were acknowledged; nothing, if none can be.
+    /// The orders of the page, the modes and the acknowledged alarms, as JSON. It is empty if orders may not be given.
     pub orders: Bytes,
 }
 
-/// Returns the query of one who has the picture of this number.
+/// Returns the query of a client that has the picture of this number: `after=310`.
 fn version_of(alloc: Global, number: u64) -> Result<Bytes, AllocError>
     ensures { IfOk result (λ bytes. bytes ≡ version_of number) }
 {
     let mut text = Vec::from_slice(alloc, b"after=")?;
+    // Writing into a Vec fails only if memory is refused.
     write!(text, "{number}").map_err(|_| AllocError)?;
     shared(text)
 }
@@ -47,9 +54,9 @@ impl Snapshot {
     ghost use Rattle.std.specs.Prelude.{◌≡◌, IfOk, OnErr, OnOk};
     ghost use Rattle.smi_web.specs.Snapshot.{no_figures, snapshot_of, renewed, with_orders};
 
-    /// Returns the first snapshot, of a page, a tree and a picture, before anything was counted.
+    /// Makes the first snapshot, of a page, a tree and a picture, at time 0 and before anything was counted.
     ///
-    /// It fails only if memory ran out, which tests alone see. No clause names `alloc`, from which memory comes.
+    /// Fails only if memory is refused (tested, not proved). No clause names `alloc`, from which memory comes.
     pub fn first(
         alloc: Global,
         page: Bytes,
@@ -79,10 +86,9 @@ impl Snapshot {
         })
     }
 
-    /// Makes the snapshot of a picture, with the figures of its screen, in place of the one before. The page and the
-    /// tree stay.
+    /// Renews the texts of the picture, with the figures of its screen. The page, the tree and the orders stay.
     ///
-    /// It fails only if memory ran out, which tests alone see, and changes nothing then. No clause names `alloc`, from
+    /// Fails only if memory is refused (tested, not proved), and changes nothing then. No clause names `alloc`, from
     /// which memory comes.
     pub fn renew(
         &mut self,
@@ -106,10 +112,10 @@ impl Snapshot {
         Ok(())
     }
 
-    /// Writes what became of the orders of this relay, and which alarms were acknowledged, looked at at this time, in
-    /// place of what was told before. All else stays.
+    /// Renews the text of the orders of this relay and the acknowledged alarms, as they are at the time `now`. All else
+    /// stays.
     ///
-    /// It fails only if memory ran out, which tests alone see, and changes nothing then. No clause names `alloc`, from
+    /// Fails only if memory is refused (tested, not proved), and changes nothing then. No clause names `alloc`, from
     /// which memory comes.
     pub fn renew_orders(
         &mut self,

@@ -1,4 +1,6 @@
-//! The tree as JSON: what does not change while a program runs.
+//! Writes the tree as JSON, the answer to `GET /api/tree`: what does not change while the screen runs. `snapshot.rt`
+//! calls `write_tree` once. docs/FORMATS.md, "The tree as JSON", fixes the text; pages count things by their places in
+//! its lists.
 //!
 //! Each list is closed by what is written after it. So `Kind::before` begins with a bracket, but for the first kind.
 
@@ -28,7 +30,7 @@ use smi_schedule::names;
 use smi_tree::Tree;
 use std::alloc::{AllocError, Global};
 
-/// Returns the station of an operator, if there is such an operator.
+/// Returns the station of an operator, by its number from 1. None if there is no such operator.
 fn home_of(tree: &Tree, operator: u16) -> Option<u16>
     ensures { result ≡ entry tree.now.homes operator }
 {
@@ -39,7 +41,7 @@ fn home_of(tree: &Tree, operator: u16) -> Option<u16>
     }
 }
 
-/// Returns the station of a domain, if there is such a domain.
+/// Returns the station of a domain, by its number from 1. None if there is no such domain.
 pub(crate) fn station_of(tree: &Tree, domain: u16) -> Option<u16>
     ensures { result ≡ station_of tree.now domain }
 {
@@ -50,7 +52,7 @@ pub(crate) fn station_of(tree: &Tree, domain: u16) -> Option<u16>
     }
 }
 
-/// Returns the domain of a device, if there is such a device.
+/// Returns the domain of a device, by its number from 1 among devices. None if there is no such device.
 fn domain_of(tree: &Tree, device: u16) -> Option<u16>
     ensures { result ≡ option_map (λ row. row.domain) (entry tree.now.devices device) }
 {
@@ -61,7 +63,7 @@ fn domain_of(tree: &Tree, device: u16) -> Option<u16>
     }
 }
 
-/// Writes the name of a station, or `null`.
+/// Appends the name of a station in quotes, or `null` if there is none.
 fn put_station(text: &mut Vec<u8>, tree: &Tree, station: Option<u16>) -> Result<(), AllocError>
     ensures { OnOk result (text.new.items ≡
         text.old.items ++ or_null (option_map (λ s. quoted (station_word tree.now s)) station)) }
@@ -72,7 +74,7 @@ fn put_station(text: &mut Vec<u8>, tree: &Tree, station: Option<u16>) -> Result<
     }
 }
 
-/// Writes the name of a domain, or `null`.
+/// Appends the name of a domain in quotes, or `null` if there is none.
 fn put_domain(text: &mut Vec<u8>, tree: &Tree, domain: Option<u16>) -> Result<(), AllocError>
     ensures { OnOk result (text.new.items ≡
         text.old.items ++ or_null (option_map (λ d. quoted (domain_word tree.now d)) domain)) }
@@ -83,7 +85,7 @@ fn put_domain(text: &mut Vec<u8>, tree: &Tree, domain: Option<u16>) -> Result<()
     }
 }
 
-/// Writes an operator: its name and its station.
+/// Appends an operator: `{"name":"ANN","station":"A"}`.
 fn put_operator(text: &mut Vec<u8>, tree: &Tree, number: u16) -> Result<(), AllocError>
     ensures { OnOk result (text.new.items ≡ text.old.items ++ operator_shape tree.now number) }
 {
@@ -94,7 +96,7 @@ fn put_operator(text: &mut Vec<u8>, tree: &Tree, number: u16) -> Result<(), Allo
     put(text, b"}")
 }
 
-/// Which actions a domain accepts, by number.
+/// Lists of each action whether a domain accepts it.
 #[derive(Clone, Copy)]
 struct Accepting<'a> {
     tree: &'a Tree,
@@ -111,7 +113,7 @@ impl<'a> Listing for Accepting<'a> {
     }
 }
 
-/// Writes which actions a domain accepts. The caller closes the list.
+/// Appends which actions a domain accepts. The caller closes the list.
 fn put_accepted(text: &mut Vec<u8>, tree: &Tree, domain: u16) -> Result<(), AllocError>
     ensures { OnOk result (text.new.items ≡ text.old.items ++ accepted_text tree.now domain) }
 {
@@ -124,7 +126,7 @@ fn put_accepted(text: &mut Vec<u8>, tree: &Tree, domain: u16) -> Result<(), Allo
     Ok(())
 }
 
-/// Begins a domain: writes its name, its station and its parent.
+/// Appends the front of a domain: its name, its station and its parent.
 #[tactic(auto, unfolding(crate::specs::TreeJson::place_text))]
 fn put_place(text: &mut Vec<u8>, tree: &Tree, number: u16) -> Result<(), AllocError>
     ensures { OnOk result (text.new.items ≡ text.old.items ++ place_text tree.now number) }
@@ -137,7 +139,7 @@ fn put_place(text: &mut Vec<u8>, tree: &Tree, number: u16) -> Result<(), AllocEr
     put_domain(text, tree, tree.parent(number))
 }
 
-/// Writes a domain.
+/// Appends a domain: `{"name":"TPC","station":"B","parent":"DCS","accepts":[true,..]}`.
 fn put_whole_domain(text: &mut Vec<u8>, tree: &Tree, number: u16) -> Result<(), AllocError>
     ensures { OnOk result (text.new.items ≡ text.old.items ++ domain_shape tree.now number) }
 {
@@ -146,7 +148,7 @@ fn put_whole_domain(text: &mut Vec<u8>, tree: &Tree, number: u16) -> Result<(), 
     put(text, b"]}")
 }
 
-/// Writes a device: its name and its domain.
+/// Appends a device: `{"name":"HV","domain":"TPC"}`.
 fn put_device(text: &mut Vec<u8>, tree: &Tree, number: u16) -> Result<(), AllocError>
     ensures { OnOk result (text.new.items ≡ text.old.items ++ device_shape tree.now number) }
 {
@@ -157,7 +159,7 @@ fn put_device(text: &mut Vec<u8>, tree: &Tree, number: u16) -> Result<(), AllocE
     put(text, b"}")
 }
 
-/// What a tree has by number.
+/// The kinds of things that a tree has by number, in the order of the lists.
 #[derive(Clone, Copy, PartialEq, Eq)]
 enum Kind {
     State,
@@ -168,7 +170,7 @@ enum Kind {
     Device,
 }
 
-/// All of a kind that a tree has.
+/// Lists all things of a kind that a tree has.
 #[derive(Clone, Copy)]
 struct All<'a> {
     tree: &'a Tree,
@@ -194,7 +196,7 @@ impl<'a> Listing for All<'a> {
 }
 
 impl Kind {
-    /// Returns what comes before the list of a kind.
+    /// Returns what comes before the list of a kind: it closes the list before.
     fn before(self) -> &'static [u8]
         ensures { result.now ≡ before_text self }
     {
@@ -223,7 +225,7 @@ impl Kind {
     }
 }
 
-/// Writes all of a kind.
+/// Appends the list of a kind. The caller closes it.
 #[tactic(auto, unfolding(crate::specs::TreeJson::kinds_text))]
 fn put_kinds(text: &mut Vec<u8>, tree: &Tree, kind: Kind) -> Result<(), AllocError>
     ensures { OnOk result (text.new.items ≡ text.old.items ++ kinds_text tree.now kind) }
@@ -232,7 +234,7 @@ fn put_kinds(text: &mut Vec<u8>, tree: &Tree, kind: Kind) -> Result<(), AllocErr
     Ok(())
 }
 
-/// Writes all that a tree has by number. The caller closes the last list.
+/// Appends the lists of all kinds. The caller closes the last one.
 fn put_all_kinds(text: &mut Vec<u8>, tree: &Tree) -> Result<(), AllocError>
     ensures { OnOk result (text.new.items ≡ text.old.items ++ all_kinds_text tree.now) }
 {
@@ -245,14 +247,15 @@ fn put_all_kinds(text: &mut Vec<u8>, tree: &Tree) -> Result<(), AllocError>
     Ok(())
 }
 
-/// Writes the tree in one line of JSON.
+/// Writes the tree in one line of JSON, with a line feed.
 ///
-/// It fails only if memory ran out, which tests alone see. No clause names `alloc`, from which memory comes.
+/// Fails only if memory is refused (tested, not proved). No clause names `alloc`, from which memory comes.
 pub fn write_tree(alloc: Global, tree: &Tree) -> Result<Vec<u8>, AllocError>
     ensures { IfOk result (λ text. text.items ≡ tree_text tree.now) }
 {
     let mut text = Vec::new(alloc);
-    // the version of the program, which is in specs/TreeJson too
+    // The version of the program, which has to be that of CHANGELOG.md, of `specs/TreeJson`, and of `VERSION` in
+    // `crates/smi_session/src/reply.rt`.
     put_number(
         &mut text,
         b"{\"version\":\"0.9\",\"tree\":",
