@@ -1,4 +1,6 @@
-//! The entries, the oldest first.
+//! The entries of a screen's history, the oldest first, and the look at a picture that adds to them. `smi_web` looks
+//! and answers requests from it, and `crates/smi_screen/src/history_file.rt` saves it. docs/FORMATS.md, "The history of
+//! a screen", says what is noted and for how long it is kept.
 
 ghost use Rattle.std.specs.Prelude.{◌≡◌, ◌≤◌, ◌<◌, length, IfOk};
 ghost use Rattle.std.specs.List.{position};
@@ -16,32 +18,36 @@ use std::collections::VecDeque;
 use std::collections::vec_deque::Iter;
 use std::marker::Model;
 
-/// The most entries that are kept.
+/// The most entries that are kept, so that the memory of a screen is bounded however much happens. `most_entries`
+/// (`specs/History`) and docs/FORMATS.md, "The history of a screen", have the number too.
 pub const MOST_ENTRIES: usize = 1_048_576;
 
-/// How many entries are looked through for one request, and are written at a time.
+/// How many entries are looked through for one request, so that no request holds up others, and how many are written to
+/// the file at a time. docs/FORMATS.md, "The history of a screen", has the number; a page asks for more after them
+/// (`AT_ONCE` in `crates/smi_program/page/past/history.mjs`).
 pub const MOST_TOLD: usize = 10_000;
 
-/// For how many days entries are kept, unless somebody says otherwise.
+/// For how many days entries are kept without `--history-days`.
 pub const USUAL_DAYS: u64 = 31;
 
-/// How many milliseconds a day has.
+/// The milliseconds of a day.
 const DAY: u64 = 86_400_000;
 
-/// What was seen, and when.
+/// What was seen, and when: an entry without its number.
 #[derive(Drop)]
 pub struct HistoryNote {
-    /// When, in milliseconds since 1970.
+    /// When it was, in milliseconds since 1970.
     pub at: u64,
-    /// What: `board TRK 1.6 READY`.
+    /// What was seen: `board TRK 1.6 READY`.
     pub text: NoteText,
 }
 
-/// A note, and its number.
+/// An entry: a note, and its number.
 #[derive(Drop)]
 pub struct HistoryEntry {
-    /// From 1, one more than that of the entry before.
+    /// Its number, from 1 at each start of the screen, one more than that of the entry before.
     pub number: u64,
+    /// What was seen.
     pub note: HistoryNote,
 }
 
@@ -52,17 +58,20 @@ pub struct HistoryEntry {
 #[derive(Drop)]
 pub struct History {
     alloc: Global,
+    /// How many entries there were so far, which is the number of the newest.
     count: u64,
     /// The number up to which entries are in a file.
     saved: u64,
-    /// For how many days entries are kept.
+    /// For how many days entries are kept from now on. `forget_older` drops those that are older.
     days: u64,
+    /// The entries that are kept, the oldest first. Their numbers end with `count`.
     entries: VecDeque<HistoryEntry>,
-    /// When the picture was looked at last, in milliseconds since the screen has started.
+    /// The time of the last look at the picture, in milliseconds since the screen began.
     looked: u64,
-    /// On which day that was, counted since 1970.
+    /// The day of the last look in UTC, counted since 1970.
     day: u64,
-    /// Whether the station of each domain was silent then.
+    /// Of each domain, by number from 1, whether its station was silent at the last look. It is empty before the first
+    /// one.
     silent: Vec<bool>,
 }
 
@@ -85,7 +94,7 @@ impl Model for History {
     ghost invariant = { λ h. length h.entries.items ≤ most_entries };
 }
 
-/// Drops the oldest, if no more can be kept.
+/// Drops the oldest entry, if no more can be kept.
 fn make_room(entries: &mut VecDeque<HistoryEntry>)
     requires { length entries.old.items ≤ spec.most_entries }
     ensures items { entries.new.items ≡ spec.with_room entries.old.items }
@@ -97,14 +106,14 @@ fn make_room(entries: &mut VecDeque<HistoryEntry>)
     }
 }
 
-/// Returns the number that follows this many.
+/// Returns the number of the entry that follows this many.
 fn next_number(count: u64) -> u64
     ensures { result ≡ spec.next_number count }
 {
     count.saturating_add(1)
 }
 
-/// Returns the place of the first entry of this second, counted since 1970, or of a later one.
+/// Returns the index of the first entry of this second, counted since 1970, or of a later one.
 fn place_since(entries: &VecDeque<HistoryEntry>, second: u64) -> Option<usize>
     ensures { result ≡ position (spec.is_since second) entries.now.items }
 {
@@ -129,7 +138,7 @@ impl History {
     ghost use Rattle.std.specs.Iterator.Runs.{YieldsRefsInOrder};
     ghost use Rattle.smi_history.specs.History as spec;
 
-    /// Makes one that has seen nothing.
+    /// Makes a history that has seen nothing.
     ///
     /// No clause names `alloc`, from which memory comes.
     pub fn new(alloc: Global) -> History
@@ -147,11 +156,12 @@ impl History {
         }
     }
 
+    /// Returns the allocator of the entries.
     pub(crate) fn alloc(&self) -> Global {
         self.alloc
     }
 
-    /// Returns when the picture was looked at last, in milliseconds since the screen has started.
+    /// Returns the time of the last look at the picture, in milliseconds since the screen began.
     pub fn looked(&self) -> u64
         ensures { result ≡ self.now.looked }
     {
@@ -179,21 +189,21 @@ impl History {
         self.days = days;
     }
 
-    /// Notes that all entries so far are saved.
+    /// Marks all entries so far as saved.
     pub fn mark_saved(&mut self)
         ensures { self.new ≡ spec.all_saved self.old }
     {
         self.saved = self.count;
     }
 
-    /// Returns how many of them are kept no longer: the number of the last one of these, or 0.
+    /// Returns how many entries are no longer kept, which is the number of the last of these, or 0.
     pub fn dropped(&self) -> u64
         ensures { result ≡ spec.dropped self.now }
     {
         self.count.saturating_sub(self.entries.len() as u64)
     }
 
-    /// Returns when the oldest entry is from that is kept, in milliseconds since 1970, or 0.
+    /// Returns the time of the oldest entry that is kept, in milliseconds since 1970, or 0 if none is.
     pub(crate) fn oldest(&self) -> u64
         ensures { result ≡ spec.oldest self.now.entries }
     {
@@ -203,8 +213,8 @@ impl History {
         }
     }
 
-    /// Returns how many of those that are kept come before the first one of this second, counted since 1970, or of a
-    /// later one.
+    /// Returns how many of the kept entries come before the first one of this second, counted since 1970, or of a later
+    /// one.
     #[tactic(auto, using(crate::proofs::Cuts::at_most_kept))]
     pub(crate) fn count_before(&self, second: u64) -> usize
         ensures { result ≡ spec.count_before second self.now.entries }
@@ -215,18 +225,20 @@ impl History {
         }
     }
 
-    /// Returns in which place the first entry after the one of this number is, of those that are kept.
+    /// Returns the index of the first kept entry after the one of this number. If there is none, returns how many are
+    /// kept.
     fn place_after(&self, number: u64) -> usize
         ensures { result ≡ spec.place_after self.now number }
     {
         let kept = self.entries.len();
         match usize::try_from(number.saturating_sub(self.dropped())) {
             Ok(place) => place.min(kept),
+            // A number that no index can be is after all entries.
             Err(_) => kept,
         }
     }
 
-    /// Returns those after the one of this number, the oldest first: at most 10,000.
+    /// Returns the entries after the one of this number, the oldest first: 10,000 at most.
     pub(crate) fn piece(&self, number: u64) -> Iter<'_, HistoryEntry>
         ensures rest { deque_iter_rest result ≡ spec.piece self.now number }
         ensures runs { YieldsRefsInOrder (deque_iter_steps {X = HistoryEntry}) deque_iter_rest }
@@ -246,7 +258,7 @@ impl History {
         }
     }
 
-    /// Drops the oldest entries, as long as they are from before this time.
+    /// Drops the oldest entries up to the first that is not from before this time, in milliseconds since 1970.
     fn forget_before(&mut self, time: u64)
         ensures { self.new ≡ spec.forgotten self.old time }
     {
@@ -255,17 +267,17 @@ impl History {
         }
     }
 
-    /// Drops the oldest entries, as long as they are from more days ago than entries are kept, by this time of the
-    /// clock.
+    /// Drops the oldest entries that are from more days ago than entries are kept. `clock` is the time now, in
+    /// milliseconds since 1970.
     pub fn forget_older(&mut self, clock: u64)
         ensures { self.new ≡ spec.forgotten self.old (spec.oldest_time self.old.days clock) }
     {
         self.forget_before(clock.saturating_sub(self.days.saturating_mul(DAY)));
     }
 
-    /// Adds a note as the newest entry. If no more can be kept, the oldest goes.
+    /// Adds a note as the newest entry. If no more can be kept, the oldest entry is dropped.
     ///
-    /// It fails only if memory ran out, which tests alone see, and changes nothing then.
+    /// Fails only if memory is refused (tested, not proved), and changes nothing then.
     pub fn note(&mut self, note: HistoryNote) -> Result<(), AllocError>
         ensures ok { OnOk result (self.new ≡ spec.noted self.old note) }
         ensures err { OnErr result (self.new ≡ self.old) }
@@ -282,7 +294,7 @@ impl History {
 
     /// Adds notes, one after the other.
     ///
-    /// It fails only if memory ran out, which tests alone see. The first of them may have been added then.
+    /// Fails only if memory is refused (tested, not proved). The first of them may have been added then.
     pub fn note_all(&mut self, notes: Vec<HistoryNote>) -> Result<(), AllocError>
         ensures ok { OnOk result (self.new ≡ spec.all_noted self.old notes.items) }
     {
@@ -292,7 +304,7 @@ impl History {
         Ok(())
     }
 
-    /// Returns what is known, if this is the first look of a day.
+    /// Returns the notes of all that is known, if this is the first look of a day, and none at any other.
     fn known_today(&self, looking: &Looking<'_>) -> Result<Vec<HistoryNote>, AllocError>
         ensures { IfOk result (λ notes. notes.items
             ≡ spec.known_today self.now looking.now.tree.now looking.now.picture.now looking.now.moment) }
@@ -305,7 +317,7 @@ impl History {
     }
 
     /// Returns of each domain whether its station was silent at the look before. At the first look of a day none counts
-    /// as silent, so that those that are silent then are told again.
+    /// as silent, so that those that are silent then are noted again.
     fn silent_before(&self, moment: LookTime) -> &[bool]
         ensures { result.now ≡ spec.silent_before self.now moment }
     {
@@ -316,12 +328,12 @@ impl History {
         }
     }
 
-    /// Drops what is too old, and notes what is new in a picture since the look before: each state that was shown, each
-    /// record that was told, and each domain whose station fell silent or is heard again. At the first look of a day it
-    /// notes before that all that is known, so that who reads from there on knows the state of everything.
+    /// Looks at a picture: drops what is too old, and notes what is new since the look before. New is each state that
+    /// was shown, each record that was told, and each domain whose station fell silent or is heard again. At the first
+    /// look of a day it first notes all that is known, so that a reader from there on knows the state of everything.
     ///
-    /// Of an object that changed more than once since then, the newest state alone is noted. It fails only if memory
-    /// ran out, which tests alone see. Some of what was new may be noted nowhere then.
+    /// Of an object that changed more than once since then, the newest state alone is noted. Fails only if memory is
+    /// refused (tested, not proved). Some of what was new may be noted nowhere then.
     pub fn look(
         &mut self,
         tree: &Tree,

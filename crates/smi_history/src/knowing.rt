@@ -1,4 +1,6 @@
-//! What is known at the first look of a day.
+//! Makes the notes of all that is known at the first look of a day, each with the time since when it is so. A page
+//! reads a day from midnight on, and without these it would not know an object to which nothing has happened since.
+//! `history.rt` calls `put_known`. docs/FORMATS.md, "The history of a screen", fixes the text `since AT ..`.
 
 ghost use Rattle.std.specs.Prelude.{◌≡◌, ◌++◌, ◌∷◌, [], IfOk, OnOk, option_map};
 ghost use Rattle.smi_schedule.specs.TraceWords.{called};
@@ -12,7 +14,8 @@ use smi_schedule::names;
 use smi_view::{Hearing, Sight};
 use std::alloc::AllocError;
 
-/// Writes since when something is so, in milliseconds since 1970: `since 1790000000123 `.
+/// Appends since when something is so, in milliseconds since 1970: `since 1790000000123 `. `at` is the same time in
+/// milliseconds since the screen began.
 fn put_since(text: &mut Vec<u8>, looking: &Looking<'_>, at: u64) -> Result<(), AllocError>
     ensures { OnOk result (text.new.items ≡ text.old.items ++ spec.since_text looking.now.moment at) }
 {
@@ -20,7 +23,7 @@ fn put_since(text: &mut Vec<u8>, looking: &Looking<'_>, at: u64) -> Result<(), A
     put(text, b" ")
 }
 
-/// Adds in which state an object is, and since when: `since 1790000000123 board TRK 1.6 READY`.
+/// Adds the note of an object's state, and since when: `since 1790000000123 board TRK 1.6 READY`.
 fn add_known_board(
     notes: &mut Vec<HistoryNote>,
     looking: &Looking<'_>,
@@ -38,7 +41,7 @@ fn add_known_board(
     push_note(notes, looking.moment.clock, text)
 }
 
-/// Adds in which state an object is, if it was seen.
+/// Adds the note of an object's state, if one was shown.
 fn add_known_sight(
     notes: &mut Vec<HistoryNote>,
     looking: &Looking<'_>,
@@ -56,7 +59,7 @@ fn add_known_sight(
     }
 }
 
-/// Adds the record of a domain, and since when it is so.
+/// Adds the note of a domain's record, and since when it is so.
 fn add_known_record(
     notes: &mut Vec<HistoryNote>,
     looking: &Looking<'_>,
@@ -72,7 +75,7 @@ fn add_known_record(
     push_note(notes, looking.moment.clock, text)
 }
 
-/// Adds the record of a domain, if it was told.
+/// Adds the note of a domain's record, if one was told.
 fn add_known_hearing(
     notes: &mut Vec<HistoryNote>,
     looking: &Looking<'_>,
@@ -88,7 +91,7 @@ fn add_known_hearing(
     }
 }
 
-/// Adds what is known of a domain.
+/// Adds the notes of what is known of a domain: the state of its unit, and its record.
 #[tactic(auto, unfolding(crate::specs::Knowing::known_of_domain))]
 fn add_known_domain(
     notes: &mut Vec<HistoryNote>,
@@ -104,7 +107,7 @@ fn add_known_domain(
     add_known_hearing(notes, looking, domain, &looking.picture.domain(domain))
 }
 
-/// Adds what is known of a device.
+/// Adds the note of what is known of a device: its state.
 fn add_known_device(
     notes: &mut Vec<HistoryNote>,
     looking: &Looking<'_>,
@@ -118,7 +121,7 @@ fn add_known_device(
     add_known_sight(notes, looking, name, device, sight)
 }
 
-/// Adds what is known of all domains.
+/// Adds the notes of what is known of all domains.
 #[tactic(auto, using(crate::proofs::Each::each_next))]
 fn add_known_domains(notes: &mut Vec<HistoryNote>, looking: &Looking<'_>) -> Result<(), AllocError>
     ensures { OnOk result (notes.new.items ≡ notes.old.items
@@ -130,7 +133,7 @@ fn add_known_domains(notes: &mut Vec<HistoryNote>, looking: &Looking<'_>) -> Res
     Ok(())
 }
 
-/// Adds what is known of all devices.
+/// Adds the notes of what is known of all devices.
 #[tactic(auto, using(crate::proofs::Each::each_next))]
 fn add_known_devices(notes: &mut Vec<HistoryNote>, looking: &Looking<'_>) -> Result<(), AllocError>
     ensures { OnOk result (notes.new.items ≡ notes.old.items
@@ -142,7 +145,7 @@ fn add_known_devices(notes: &mut Vec<HistoryNote>, looking: &Looking<'_>) -> Res
     Ok(())
 }
 
-/// Returns what is known of everything, and since when.
+/// Returns the notes of all that is known, and since when: of domains, and then of devices.
 pub(crate) fn put_known(looking: &Looking<'_>) -> Result<Vec<HistoryNote>, AllocError>
     ensures { IfOk result (λ notes. notes.items
         ≡ spec.known_notes looking.now.tree.now looking.now.picture.now looking.now.moment) }

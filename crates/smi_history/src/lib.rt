@@ -1,4 +1,6 @@
-//! What a screen has seen, the oldest first: a value without file, socket or clock.
+//! The history of a screen: what it has seen, the oldest first, as a value without file, socket or clock. `smi_web`
+//! adds to it and answers requests from it; `smi_screen` has the file and the clock. `smi_web` also uses its functions
+//! that append text.
 //!
 //! - A [`History`] keeps the entries of some days, [`MOST_ENTRIES`] at most. Each [`HistoryEntry`] has a number, a
 //!   time, and a line that says what was seen: `board TRK 1.6 READY`.

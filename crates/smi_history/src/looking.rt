@@ -1,4 +1,10 @@
-//! What is new in a picture.
+//! Finds what is new in a picture since the look before, and makes notes of it: states, records, and domains whose
+//! station fell silent or is heard again. `history.rt` calls `put_notes` and `put_silences`. docs/FORMATS.md, "The
+//! history of a screen", fixes the texts, which pages read.
+//!
+//! A `Sight` is the newest state of an object and when it came. A `Hearing` is the newest record of a domain, when it
+//! came first (`since`), and when the domain's keeper was last heard. Their times are in milliseconds since the screen
+//! began.
 
 ghost use Rattle.std.specs.Prelude.{◌≡◌, ◌+◌, ◌++◌, ◌∷◌, [], IfOk, OnOk, option_map};
 ghost use Rattle.smi_tree.specs.Lookups.{domain_count};
@@ -17,22 +23,27 @@ use smi_tree::Tree;
 use smi_view::{Hearing, Picture, Sight};
 use std::alloc::{AllocError, Global};
 
-/// For how many milliseconds a station may be silent.
+/// A station counts as silent if it was not heard for more than this many milliseconds. docs/FORMATS.md, "The history
+/// of a screen", promises two seconds, and a page counts as silent by the same number (`MOST_SILENCE` in
+/// `crates/smi_program/page/model.mjs`).
 const MOST_SILENCE: u64 = 2_000;
 
-/// What is looked at, and when it was last.
+/// A look at a picture.
 #[derive(Clone, Copy)]
 pub(crate) struct Looking<'a> {
+    /// The allocator for notes.
     pub(crate) alloc: Global,
     pub(crate) tree: &'a Tree,
     pub(crate) picture: &'a Picture,
+    /// The time of the look before, in milliseconds since the screen began.
     pub(crate) from: u64,
+    /// The time of this look.
     pub(crate) moment: LookTime,
 }
 
-/// Adds a note of this time in milliseconds since 1970, and of this text.
+/// Adds a note of this text, and of the time `at` in milliseconds since 1970.
 ///
-/// It fails only if memory ran out, which tests alone see.
+/// Fails only if memory is refused (tested, not proved).
 pub fn push_note(notes: &mut Vec<HistoryNote>, at: u64, text: Vec<u8>) -> Result<(), AllocError>
     ensures { OnOk result (notes.new.items ≡ notes.old.items ++ spec.note_of at text.items ∷ []) }
 {
@@ -41,7 +52,7 @@ pub fn push_note(notes: &mut Vec<HistoryNote>, at: u64, text: Vec<u8>) -> Result
     Ok(())
 }
 
-/// Writes which state of an object was shown: `board TRK 1.6 READY`.
+/// Appends which state of an object was shown: `board TRK 1.6 READY`.
 pub(crate) fn put_board(
     text: &mut Vec<u8>,
     tree: &Tree,
@@ -57,7 +68,7 @@ pub(crate) fn put_board(
     put_shown(text, tree, shown)
 }
 
-/// Writes the record of a domain: `record TRK operator ANN 3 4 settled 0`.
+/// Appends the record of a domain: `record TRK operator ANN 3 4 settled 0`.
 pub(crate) fn put_standing(
     text: &mut Vec<u8>,
     tree: &Tree,
@@ -71,7 +82,7 @@ pub(crate) fn put_standing(
     put_record(text, tree, record)
 }
 
-/// Adds that a state of an object was shown.
+/// Adds the note that a state of an object was shown.
 fn add_board(
     notes: &mut Vec<HistoryNote>,
     looking: &Looking<'_>,
@@ -88,7 +99,7 @@ fn add_board(
     push_note(notes, clock_at(looking.moment, seen.at), text)
 }
 
-/// Adds that a state of an object was shown, if it is new.
+/// Adds the note that a state of an object was shown, if it is new.
 fn add_sight(
     notes: &mut Vec<HistoryNote>,
     looking: &Looking<'_>,
@@ -108,7 +119,7 @@ fn add_sight(
     }
 }
 
-/// Adds that a record of a domain was told.
+/// Adds the note that a record of a domain was told.
 fn add_record(
     notes: &mut Vec<HistoryNote>,
     looking: &Looking<'_>,
@@ -123,7 +134,7 @@ fn add_record(
     push_note(notes, clock_at(looking.moment, had.since), text)
 }
 
-/// Adds that a record of a domain was told, if it is new.
+/// Adds the note that a record of a domain was told, if it is new.
 fn add_hearing(
     notes: &mut Vec<HistoryNote>,
     looking: &Looking<'_>,
@@ -141,7 +152,8 @@ fn add_hearing(
     }
 }
 
-/// Returns true if the station of a domain of which this was heard is silent now.
+/// Returns true if the station of a domain is silent at the time `now`. A domain of which nothing was ever heard does
+/// not count as silent.
 fn is_silent(hearing: &Option<Hearing>, now: u64) -> bool
     ensures { result ≡ spec.is_silent hearing.now now }
 {
@@ -151,7 +163,7 @@ fn is_silent(hearing: &Option<Hearing>, now: u64) -> bool
     }
 }
 
-/// Returns whether the station of a domain was silent at the look before.
+/// Returns true if the station of a domain was silent at the look before.
 fn was_silent(silent: &[bool], domain: u16) -> bool
     ensures { result ≡ spec.was_silent silent.now domain }
 {
@@ -161,7 +173,7 @@ fn was_silent(silent: &[bool], domain: u16) -> bool
     }
 }
 
-/// Adds that the station of a domain is silent, or heard again: `silent TRK`, `heard TRK`.
+/// Adds the note that the station of a domain is silent, or is heard again: `silent TRK`, `heard TRK`.
 fn add_change(
     notes: &mut Vec<HistoryNote>,
     looking: &Looking<'_>,
@@ -177,7 +189,8 @@ fn add_change(
     push_note(notes, looking.moment.clock, text)
 }
 
-/// Adds that the station of a domain fell silent, or is heard again, if it is so since the look before.
+/// Adds the note that the station of a domain fell silent, or is heard again, if that has changed since the look
+/// before.
 fn add_silence(
     notes: &mut Vec<HistoryNote>,
     looking: &Looking<'_>,
@@ -195,14 +208,14 @@ fn add_silence(
     }
 }
 
-/// Returns true if the station of a domain is silent.
+/// Returns true if the station of a domain is silent at this look.
 fn is_silent_in(looking: &Looking<'_>, domain: u16) -> bool
     ensures { result ≡ spec.is_silent_in looking.now.picture.now looking.now.moment domain }
 {
     is_silent(&looking.picture.domain(domain), looking.moment.now)
 }
 
-/// Adds what is new of a domain.
+/// Adds the notes of what is new of a domain: its state, its record, and whether its station is silent.
 #[tactic(auto, unfolding(crate::specs::Looking::domain_notes))]
 fn add_domain(
     notes: &mut Vec<HistoryNote>,
@@ -222,14 +235,14 @@ fn add_domain(
     add_silence(notes, looking, domain, was_silent(silent, domain), is)
 }
 
-/// Returns what was seen of a device.
+/// Returns the newest state of a device, by its number from 1. In a picture devices are numbered after all domains.
 pub(crate) fn sight_of_device(tree: &Tree, picture: &Picture, device: u16) -> Option<Sight>
     ensures { result ≡ object_of picture.now (domain_count tree.now + device) }
 {
     picture.object(usize::from(tree.domain_count()) + usize::from(device))
 }
 
-/// Adds what is new of a device.
+/// Adds the note of what is new of a device: its state.
 fn add_device(
     notes: &mut Vec<HistoryNote>,
     looking: &Looking<'_>,
@@ -243,7 +256,7 @@ fn add_device(
     add_sight(notes, looking, name, device, sight)
 }
 
-/// Adds what is new of all domains.
+/// Adds the notes of what is new of all domains.
 #[tactic(auto, using(crate::proofs::Each::each_next))]
 fn add_domains(
     notes: &mut Vec<HistoryNote>,
@@ -260,7 +273,7 @@ fn add_domains(
     Ok(())
 }
 
-/// Adds what is new of all devices.
+/// Adds the notes of what is new of all devices.
 #[tactic(auto, using(crate::proofs::Each::each_next))]
 fn add_devices(notes: &mut Vec<HistoryNote>, looking: &Looking<'_>) -> Result<(), AllocError>
     ensures { OnOk result (notes.new.items ≡ notes.old.items
@@ -272,7 +285,8 @@ fn add_devices(notes: &mut Vec<HistoryNote>, looking: &Looking<'_>) -> Result<()
     Ok(())
 }
 
-/// Returns what is new in a picture, if these stations were silent at the look before.
+/// Returns the notes of what is new in a picture. `silent` says of each domain whether its station was silent at the
+/// look before.
 pub(crate) fn put_notes(
     looking: &Looking<'_>,
     silent: &[bool],

@@ -1,11 +1,12 @@
-//! A text that takes no more memory than its bytes.
+//! The text of a note, which takes no more memory than its bytes: a `Vec` of just its length that never grows. A
+//! history may keep a million of them.
 
 ghost use Rattle.std.specs.Prelude.{◌≡◌, IfOk};
 
 use std::alloc::{AllocError, Global};
 use std::marker::Model;
 
-/// The text of a note. A history keeps a million of them, so it has no room to grow.
+/// The text of a note. It never grows, because a history may keep a million of them.
 ///
 /// Contracts see its bytes.
 #[derive(Drop)]
@@ -24,9 +25,9 @@ impl Model for NoteText {
 impl NoteText {
     ghost use Rattle.std.specs.Prelude.{◌≡◌, IfOk};
 
-    /// Copies a text.
+    /// Copies a text into memory of just its length.
     ///
-    /// It fails only if memory ran out, which tests alone see.
+    /// Fails only if memory is refused (tested, not proved).
     pub(crate) fn copy_of(alloc: Global, text: &[u8]) -> Result<NoteText, AllocError>
         ensures { IfOk result (λ copy. copy ≡ text.now) }
     {

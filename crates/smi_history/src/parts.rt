@@ -1,18 +1,18 @@
-//! A text in parts.
+//! Cuts texts at a byte: lines of a file, words of an entry, and parts of a query. `lines.rt` and `query.rt` call it.
 
 ghost use Rattle.std.specs.Prelude.{◌≡◌, ◌<◌, ◌≤◌, ◌∷◌, length, IfSome, option_map};
 ghost use Rattle.smi_history.specs.Parts as spec;
 
 use crate::text::rest_of;
 
-/// Returns where the first such byte is.
+/// Returns the index of the first byte `mark`.
 fn place_of(mark: u8, text: &[u8]) -> Option<usize>
     ensures { result ≡ spec.place_of mark text.now }
 {
     text.iter().position(|byte| *byte == mark)
 }
 
-/// Returns how many bytes come before the first such byte, all if there is none.
+/// Returns how many bytes come before the first byte `mark`: all if there is none.
 #[tactic(auto, using(crate::proofs::Cuts::at_most_all))]
 fn length_before(mark: u8, text: &[u8]) -> usize
     ensures place { result ≡ spec.length_before mark text.now }
@@ -24,7 +24,8 @@ fn length_before(mark: u8, text: &[u8]) -> usize
     }
 }
 
-/// Returns what comes before the first such byte, and what follows it, if there is one.
+/// Returns what comes before the first byte `mark`, and what follows it. If there is none, returns the whole text and
+/// None.
 #[tactic(auto, using(crate::proofs::Cuts::parts_cut, crate::proofs::Cuts::parts_whole))]
 pub(crate) fn cut_at(mark: u8, text: &[u8]) -> (&[u8], Option<&[u8]>)
     ensures front { result.0.now ≡ spec.before_mark mark text.now }
@@ -43,7 +44,7 @@ pub(crate) fn cut_at(mark: u8, text: &[u8]) -> (&[u8], Option<&[u8]>)
     }
 }
 
-/// Returns true if a text has this word, between blanks.
+/// Returns true if a text has this word between spaces, or at its beginning or end.
 pub(crate) fn has_word(text: &[u8], word: &[u8]) -> bool
     ensures { result ≡ spec.has_word text.now word.now }
 {
@@ -58,7 +59,8 @@ pub(crate) fn has_word(text: &[u8], word: &[u8]) -> bool
     false
 }
 
-/// Returns the value of the first part of a query that has this key before it.
+/// Returns the value of the first part of a query that begins with this key, as `object=`. Parts are separated by `&`.
+/// None if there is no such part.
 pub(crate) fn value_of<'a>(key: &[u8], query: &'a [u8]) -> Option<&'a [u8]>
     ensures { option_map (λ value. value.now) result ≡ spec.value_of key.now query.now }
 {

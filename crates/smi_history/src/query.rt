@@ -1,4 +1,7 @@
-//! Which entries a request asks for, and how they read.
+//! Parses the query of a request for the history, and writes the entries that it asks for as lines of JSON.
+//! `crates/smi_web/src/service.rt` calls it for `GET /api/history`, and `routing.rt` there refuses a query that is not
+//! well formed. docs/FORMATS.md, "The history of a screen", fixes query and answer, which
+//! `crates/smi_program/page/past` reads.
 
 ghost use Rattle.std.specs.Prelude.{◌≡◌, ◌++◌, OnOk, option_map};
 ghost use Rattle.smi_history.specs.Query as spec;
@@ -10,19 +13,21 @@ use smi_tree::number_within;
 use std::alloc::AllocError;
 use std::marker::Model;
 
-/// The greatest number that a query may have, and the last second.
+/// The greatest number and the last second that a query may have: ten digits, as docs/FORMATS.md, "The history of a
+/// screen", says.
 const MOST_NUMBER: u64 = 9_999_999_999;
 
-/// Which entries are asked for.
+/// Which entries a query asks for: those that pass all of its tests.
 #[derive(Drop)]
 pub struct HistoryQuery<'a> {
-    /// Those after the one of this number; or those from the first one of the second below; or the newest.
+    /// Asks for entries after the one of this number. If it is None, `from` says where to begin: at the first entry of
+    /// that second, or, if `from` is 0 too, with the newest 10,000.
     pub after: Option<u64>,
-    /// Those that have this word, as the name of an object or an operator.
+    /// Asks for entries that have this word, as the name of an object or an operator. None asks for all.
     pub object: Option<&'a [u8]>,
-    /// Those from this second on, counted since 1970.
+    /// Asks for entries from this second on, counted since 1970. 0 if the query has none.
     pub from: u64,
-    /// Those up to the end of this one.
+    /// Asks for entries up to the end of this second, counted since 1970. `MOST_NUMBER` if the query has none.
     pub to: u64,
 }
 
@@ -40,7 +45,8 @@ impl<'a> Model for HistoryQuery<'a> {
     } };
 }
 
-/// Returns the number that a query has for something, or this one if it has none.
+/// Returns the number that a word of a query is, or `number` if the query has no such word. None if the word is no
+/// number of up to ten digits.
 fn number_or(number: u64, word: Option<&[u8]>) -> Option<u64>
     ensures { result ≡ spec.number_or number (option_map (λ word. word.now) word.entry) }
 {
@@ -50,7 +56,8 @@ fn number_or(number: u64, word: Option<&[u8]>) -> Option<u64>
     }
 }
 
-/// Returns the number that a query has for something, if it has one and it is well formed.
+/// Returns the number that a word of a query is, or Some(None) if the query has no such word. None if the word is no
+/// number of up to ten digits.
 fn number_if_any(word: Option<&[u8]>) -> Option<Option<u64>>
     ensures { result ≡ spec.number_if_any (option_map (λ word. word.now) word.entry) }
 {
@@ -64,7 +71,7 @@ fn number_if_any(word: Option<&[u8]>) -> Option<Option<u64>>
 }
 
 /// Returns what a query asks for: `object=TRK&from=1790000000&to=1790003600&after=17`, of which each part may be left
-/// out. Other parts are looked at by nobody. Nothing, if a number in it is none of up to ten digits.
+/// out. Other parts are ignored. None if a number in it is no number of up to ten digits.
 pub fn query_in(text: &[u8]) -> Option<HistoryQuery<'_>>
     ensures { result ≡ spec.query_in text.now }
 {
@@ -89,7 +96,7 @@ fn is_about(text: &[u8], object: Option<&[u8]>) -> bool
     }
 }
 
-/// Returns true if a moment is among the seconds that are asked for.
+/// Returns true if a time, in milliseconds since 1970, is in one of the seconds that are asked for.
 fn is_then(query: &HistoryQuery<'_>, at: u64) -> bool
     ensures { result ≡ spec.is_then query.now at }
 {
@@ -103,7 +110,8 @@ fn is_asked(query: &HistoryQuery<'_>, entry: &HistoryEntry) -> bool
     is_then(query, entry.note.at) && is_about(entry.note.text.as_slice(), query.object)
 }
 
-/// Writes an entry as a line of JSON.
+/// Appends an entry as a line of JSON: `{"number":17,"at":1790000000123,"text":"board TRK 1.6 READY"}`. Nothing is
+/// escaped: the texts of entries are plain.
 #[tactic(auto, unfolding(crate::specs::Query::entry_line))]
 fn put_entry(text: &mut Vec<u8>, entry: &HistoryEntry) -> Result<(), AllocError>
     ensures { OnOk result (text.new.items ≡ text.old.items ++ spec.entry_line entry.now) }
@@ -115,7 +123,7 @@ fn put_entry(text: &mut Vec<u8>, entry: &HistoryEntry) -> Result<(), AllocError>
     put(text, b"\"}\n")
 }
 
-/// Writes an entry, if it is asked for.
+/// Appends the line of an entry, if it is asked for.
 #[tactic(auto, unfolding(crate::specs::Query::asked_line))]
 fn put_asked(
     text: &mut Vec<u8>,
@@ -137,8 +145,8 @@ impl History {
     ghost use Rattle.smi_history.specs.History.{piece};
     ghost use Rattle.smi_history.specs.Query as spec;
 
-    /// Returns after which number it is looked for what a query asks for that names none: before the first entry of
-    /// this second, or before the newest that are looked through for one request.
+    /// Returns the number after which a query without `after` is looked for: before the first entry of this second, or
+    /// before the newest 10,000 if the second is 0.
     fn usual_start(&self, second: u64) -> u64
         ensures { result ≡ spec.usual_start self.now second }
     {
@@ -152,7 +160,7 @@ impl History {
         }
     }
 
-    /// Returns the number after which it is looked for what a query asks for.
+    /// Returns the number after which entries are looked through for a query.
     fn start_of(&self, query: &HistoryQuery<'_>) -> u64
         ensures { result ≡ spec.start_of self.now query.now }
     {
@@ -162,7 +170,7 @@ impl History {
         }
     }
 
-    /// Writes the entries that a query asks for, of those that are looked through after this number.
+    /// Appends the entries that a query asks for, of the 10,000 that are looked through after this number.
     fn put_entries(
         &self,
         text: &mut Vec<u8>,
@@ -178,8 +186,10 @@ impl History {
         Ok(())
     }
 
-    /// Writes the first line of an answer: how many entries there were so far, up to which they are saved, after which
-    /// number was looked and up to which, and when the oldest is from that is kept.
+    /// Appends the first line of an answer, as
+    /// `{"count":131,"saved":120,"after":0,"upto":10000,"oldest":1790000000123}`: how many entries there were so far,
+    /// up to which they are saved, after which number and up to which they are looked through, and when the oldest is
+    /// from that is kept. `upto` may be more than `count`.
     #[tactic(auto, unfolding(crate::specs::Query::head_line))]
     fn put_head(&self, text: &mut Vec<u8>, first: u64) -> Result<(), AllocError>
         ensures { OnOk result (text.new.items ≡ text.old.items ++ spec.head_line self.now first) }
@@ -192,11 +202,11 @@ impl History {
         put(text, b"}\n")
     }
 
-    /// Writes the entries that a query asks for, each as a line of JSON, after a first line that says where was looked.
-    /// At most 10,000 entries are looked through, so that no answer is larger than some megabytes. The next request
-    /// goes on after them.
+    /// Writes the entries that a query asks for, each as a line of JSON, after a first line that says which were looked
+    /// through. These are 10,000 at most, so that no answer is larger than some megabytes. The next request asks for
+    /// those after them.
     ///
-    /// It fails only if memory ran out, which tests alone see.
+    /// Fails only if memory is refused (tested, not proved).
     pub fn write(&self, query: &HistoryQuery<'_>) -> Result<Vec<u8>, AllocError>
         ensures { IfOk result (λ text. text.items ≡ spec.history_text self.now query.now) }
     {

@@ -1,4 +1,5 @@
-//! What was seen, as a line.
+//! Appends states and records in the words of the history: ` 1.6 READY`, ` operator ANN 3 4 settled 0`. `looking.rt`
+//! and `knowing.rt` call it. docs/FORMATS.md, "The history of a screen", fixes the words, which pages read.
 
 ghost use Rattle.std.specs.Prelude.{◌≡◌, ◌++◌, OnOk};
 ghost use Rattle.smi_history.specs.Wording as spec;
@@ -9,7 +10,7 @@ use smi_schedule::names;
 use smi_tree::Tree;
 use std::alloc::AllocError;
 
-/// Writes the version of a state that was shown: `1.6`.
+/// Appends a space and the version of a state that was shown: ` 1.6`.
 fn put_version(text: &mut Vec<u8>, shown: Shown) -> Result<(), AllocError>
     ensures { OnOk result (text.new.items ≡ text.old.items ++ spec.version_text shown) }
 {
@@ -17,7 +18,7 @@ fn put_version(text: &mut Vec<u8>, shown: Shown) -> Result<(), AllocError>
     put_number(text, b".", u64::from(shown.version.sequence))
 }
 
-/// Writes that a state was shown, after the name of its object: ` 1.6 READY`.
+/// Appends the version and the name of a state that was shown: ` 1.6 READY`.
 pub(crate) fn put_shown(text: &mut Vec<u8>, tree: &Tree, shown: Shown) -> Result<(), AllocError>
     ensures { OnOk result (text.new.items ≡ text.old.items ++ spec.shown_text tree.now shown) }
 {
@@ -26,7 +27,7 @@ pub(crate) fn put_shown(text: &mut Vec<u8>, tree: &Tree, shown: Shown) -> Result
     put_called(text, names::state(tree, shown.state), shown.state)
 }
 
-/// Writes who holds a domain: ` operator ANN`, ` domain EXPERIMENT` or ` free`.
+/// Appends who holds a domain: ` operator ANN`, ` domain EXPERIMENT` or ` free`.
 fn put_holder(text: &mut Vec<u8>, tree: &Tree, holder: Holder) -> Result<(), AllocError>
     ensures { OnOk result (text.new.items ≡ text.old.items ++ spec.holder_text tree.now holder) }
 {
@@ -43,7 +44,7 @@ fn put_holder(text: &mut Vec<u8>, tree: &Tree, holder: Holder) -> Result<(), All
     }
 }
 
-/// Returns the word of a phase.
+/// Returns the word of a phase, with a space before it.
 fn phase_word(phase: Phase) -> &'static [u8]
     ensures { result.now ≡ spec.phase_word phase }
 {
@@ -53,7 +54,7 @@ fn phase_word(phase: Phase) -> &'static [u8]
     }
 }
 
-/// Writes the last command of a domain: ` 4 settled 0`.
+/// Appends the number of a domain's last command, its phase and its outcome: ` 4 settled 0`.
 fn put_last(text: &mut Vec<u8>, record: &Record) -> Result<(), AllocError>
     ensures { OnOk result (text.new.items ≡ text.old.items ++ spec.last_text record.now) }
 {
@@ -62,7 +63,7 @@ fn put_last(text: &mut Vec<u8>, record: &Record) -> Result<(), AllocError>
     put_number(text, b" ", u64::from(record.outcome))
 }
 
-/// Writes a record, after the name of its domain: ` operator ANN 3 4 settled 0`.
+/// Appends a record: its holder, its epoch and its last command, as ` operator ANN 3 4 settled 0`.
 pub(crate) fn put_record(text: &mut Vec<u8>, tree: &Tree, record: &Record) -> Result<(), AllocError>
     ensures { OnOk result (text.new.items ≡ text.old.items ++ spec.record_text tree.now record.now) }
 {
