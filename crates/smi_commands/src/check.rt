@@ -1,4 +1,6 @@
-//! What a tree file declares, in one line.
+//! `smi check`: reads a tree file, and prints what it declares in one line, or its first fault; with `--lint` also its
+//! doubts. `crates/smi_program/src/commands.rt` calls it. docs/FORMATS.md, "The tree file", fixes the faults, and
+//! "Doubts" the lines about doubts.
 
 ghost use Rattle.std.specs.Prelude.{◌≡◌, ◌≢◌, ◌⊎◌, IsErr, IsOk};
 ghost use Rattle.smi_tree.specs.File.{tree_of};
@@ -9,21 +11,21 @@ use smi_tree::{Tree, TreeFault};
 use std::alloc::Global;
 use std::io::Write;
 
-/// What is told of a lawful tree file.
+/// What is printed of a lawful tree file.
 #[derive(Clone, Copy)]
 enum CheckDetail {
-    /// What it declares.
+    /// What it declares: `smi check TREE`.
     Counts,
-    /// And then what is surely not meant.
+    /// What it declares, and then its doubts: `smi check TREE --lint`.
     Lints,
 }
 
-/// Tells how many stations, operators, domains and devices a tree file has, or the line of its first
-/// fault and the fault's number on `faults`, and returns the exit status.
+/// Prints how many stations, operators, domains and devices a tree file has, or on `faults` the line of its first fault
+/// and the fault's number: `tree line 3 fault 5`. Returns the exit status.
 ///
-/// It is 0 if the file is one and the line is written, 1 if the file is refused, 3 if the line could not be written,
-/// and 4 if memory ran out. (docs/FORMATS.md, "The tree file".) No clause names `alloc`, from which memory comes, and
-/// `writer` and `faults`, to which words are written: tests see these.
+/// It is 0 if the file is a tree and the line is written, 1 if the file is refused, 3 if the line could not be written,
+/// and 4 if memory was refused (docs/NUMBERS.md, "Statuses of the program"). No clause names `alloc`, from which memory
+/// comes, and `writer` and `faults`, to which words are written: tests see these.
 pub fn check<W: Write, F: Write>(alloc: Global, bytes: &[u8], writer: &mut W, faults: &mut F) -> u8
     ensures accepted { result ≡ 0 → IsOk (tree_of bytes.now) }
     ensures refused { result ≡ 1 → IsErr (tree_of bytes.now) }
@@ -33,8 +35,8 @@ pub fn check<W: Write, F: Write>(alloc: Global, bytes: &[u8], writer: &mut W, fa
     checked(alloc, bytes, CheckDetail::Counts, writer, faults).code()
 }
 
-/// Tells the same as [`check`], and of a lawful file also on `faults` what in it is surely not meant (docs/FORMATS.md,
-/// "Doubts"), which does not change the status.
+/// Prints the same as [`check`], and of a lawful file on `faults` also its doubts: what is lawful in it and surely not
+/// meant (docs/FORMATS.md, "Doubts"). Doubts do not change the status.
 ///
 /// No clause names `alloc`, from which memory comes, and `writer` and `faults`, to which words are written: tests see
 /// these.
@@ -47,7 +49,8 @@ pub fn lint<W: Write, F: Write>(alloc: Global, bytes: &[u8], writer: &mut W, fau
     checked(alloc, bytes, CheckDetail::Lints, writer, faults).code()
 }
 
-// It drops the tree in one place: each is expensive to prove.
+// Reads the tree and prints what is wanted. It drops the tree in one place for both commands: each is expensive to
+// prove.
 fn checked<W: Write, F: Write>(
     alloc: Global,
     bytes: &[u8],
@@ -63,6 +66,7 @@ fn checked<W: Write, F: Write>(
     match Tree::read(alloc, bytes) {
         Ok(tree) => print_wanted(&tree, wanted, writer, faults),
         Err(TreeFault::Line(line, fault)) => {
+            // If standard error can't be written, the status alone tells the fault.
             let _ = writeln!(faults, "tree line {line} fault {fault}");
             Status::Refused
         }
@@ -70,7 +74,7 @@ fn checked<W: Write, F: Write>(
     }
 }
 
-/// Tells what the tree has, and then, if that is wanted, on `faults` what in it is surely not meant.
+/// Prints what the tree has, and then, if that is wanted, its doubts on `faults`.
 fn print_wanted<W: Write, F: Write>(
     tree: &Tree,
     wanted: CheckDetail,

@@ -1,4 +1,7 @@
-//! A line for each doubt.
+//! Writes the doubts about a lawful tree file, a line each: what is lawful and surely not meant. `check.rt` calls
+//! `tell` for `smi check --lint`. Which doubts there are, their order and their words are in docs/FORMATS.md, "Doubts",
+//! and `tests/doubts.py` judges them a second time. Whether there is a doubt is decided in the other files that are
+//! used here.
 
 ghost use Rattle.std.specs.Prelude.{◌≤◌};
 ghost use Rattle.smi_tree.specs.Lookups.{state_count, action_count, domain_count, device_count};
@@ -13,7 +16,7 @@ use smi_tree::Tree;
 use std::io::{self, Write};
 
 /// Writes a line for each doubt about a tree: of stations, of actions and rules by domain, of states, of devices, each
-/// by number. What can't be written is passed over.
+/// by number. A line that can't be written is left out, because doubts do not change the status.
 ///
 /// It has no clause: it writes words, which tests/trees.py compares. If there is a doubt, the functions that find it
 /// say so by clauses.
@@ -43,6 +46,7 @@ pub fn tell<W: Write>(tree: &Tree, writer: &mut W) {
     }
 }
 
+/// Writes the doubts about the actions of a domain's class: idle ones, and refused ones.
 fn tell_actions<W: Write>(tree: &Tree, domain: u16, writer: &mut W)
     requires least { 1 ≤ domain }
     requires most { domain ≤ domain_count tree.now }
@@ -57,6 +61,8 @@ fn tell_actions<W: Write>(tree: &Tree, domain: u16, writer: &mut W)
     }
 }
 
+/// Writes the doubts about the rules of a domain's class. The states over two or more of which no rule holds are in one
+/// line.
 fn tell_rules<W: Write>(tree: &Tree, domain: u16, writer: &mut W)
     requires least { 1 ≤ domain }
     requires most { domain ≤ domain_count tree.now }
@@ -78,7 +84,7 @@ fn tell_rules<W: Write>(tree: &Tree, domain: u16, writer: &mut W)
     }
 }
 
-/// Returns the name of a station, nothing if the tree does not have it.
+/// Returns the name of a station, or an empty text if the tree does not have it.
 fn name_of(tree: &Tree, station: u16) -> &[u8] {
     if 1 <= station && station <= tree.station_count() {
         tree.station_name(station)
@@ -87,6 +93,7 @@ fn name_of(tree: &Tree, station: u16) -> &[u8] {
     }
 }
 
+/// Writes that a station has the address of another one.
 fn tell_twin<W: Write>(tree: &Tree, station: u16, other: u16, writer: &mut W) -> io::Result<()> {
     writer.write_all(b"doubt: station ")?;
     writer.write_all(name_of(tree, station))?;
@@ -95,6 +102,7 @@ fn tell_twin<W: Write>(tree: &Tree, station: u16, other: u16, writer: &mut W) ->
     writer.write_all(b"\n")
 }
 
+/// Writes that a domain accepts an action by which no device moves.
 fn tell_idle<W: Write>(tree: &Tree, domain: u16, action: u16, writer: &mut W) -> io::Result<()>
     requires least_domain { 1 ≤ domain }
     requires most_domain { domain ≤ domain_count tree.now }
@@ -108,6 +116,7 @@ fn tell_idle<W: Write>(tree: &Tree, domain: u16, action: u16, writer: &mut W) ->
     writer.write_all(b", by which no device moves below a domain of its class\n")
 }
 
+/// Writes that a domain does not accept an action that its parent accepts.
 fn tell_refused<W: Write>(tree: &Tree, domain: u16, action: u16, writer: &mut W) -> io::Result<()>
     requires least_domain { 1 ≤ domain }
     requires most_domain { domain ≤ domain_count tree.now }
@@ -123,6 +132,7 @@ fn tell_refused<W: Write>(tree: &Tree, domain: u16, action: u16, writer: &mut W)
     )
 }
 
+/// Writes that a domain keeps its old state if all its members are in one state.
 fn tell_unruled<W: Write>(tree: &Tree, domain: u16, state: u16, writer: &mut W) -> io::Result<()>
     requires least_domain { 1 ≤ domain }
     requires most_domain { domain ≤ domain_count tree.now }
@@ -136,7 +146,8 @@ fn tell_unruled<W: Write>(tree: &Tree, domain: u16, state: u16, writer: &mut W) 
     writer.write_all(b"\n")
 }
 
-/// Writes a state of those over two or more of which no rule holds, behind the ones before it.
+/// Writes a state of those over two or more of which no rule holds, after the ones before it. Before the first of them
+/// it writes the front of the line: `is_begun` is false then. The caller ends the line.
 fn tell_mixed<W: Write>(
     tree: &Tree,
     domain: u16,
@@ -158,6 +169,7 @@ fn tell_mixed<W: Write>(
     writer.write_all(tree.state_name(state))
 }
 
+/// Writes that an action moves a device that nobody has reported.
 fn tell_obedient<W: Write>(tree: &Tree, device: u16, action: u16, writer: &mut W) -> io::Result<()>
     requires least_device { 1 ≤ device }
     requires most_device { device ≤ device_count tree.now }
@@ -171,6 +183,7 @@ fn tell_obedient<W: Write>(tree: &Tree, device: u16, action: u16, writer: &mut W
     writer.write_all(b" though nobody has reported it\n")
 }
 
+/// Writes that no object gets into a state.
 fn tell_unreached<W: Write>(tree: &Tree, state: u16, writer: &mut W) -> io::Result<()>
     requires least { 1 ≤ state }
     requires most { state ≤ state_count tree.now }

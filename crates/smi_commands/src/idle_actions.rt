@@ -1,4 +1,7 @@
-//! Actions that a unit accepts and that move nothing.
+//! Finds idle actions, a kind of doubt (docs/FORMATS.md, "Doubts"): a unit accepts the action, and no device of its
+//! domain or below moves by it. `doubts.rt` calls `is_idle`, and the other files about doubts use its look-ups.
+//!
+//! Searches go through all numbers from 0 to the last. What has a number in a tree has it from 1, and 0 passes no test.
 
 ghost use Rattle.std.specs.Prelude.{◌≡◌};
 ghost use Rattle.smi_commands.specs.Doubts as spec;
@@ -27,14 +30,14 @@ pub(crate) fn home_of(tree: &Tree, device: u16) -> u16
     }
 }
 
-/// Returns true if a device goes to another state from some state by this action.
+/// Returns true if the action moves a device out of some state.
 fn stirs(tree: &Tree, device: u16, action: u16) -> bool
     ensures { result ≡ spec.stirs tree.now device action }
 {
     (0..tree.state_count() + 1).any(|from| tree.moved(device, from, action) != from)
 }
 
-/// Returns true if a domain is of this class, or lies below one that is.
+/// Returns true if a domain is of this class, or is below one that is.
 fn lies_under(tree: &Tree, class: u16, domain: u16) -> bool
     ensures { result ≡ spec.lies_under tree.now class domain }
 {
@@ -43,7 +46,7 @@ fn lies_under(tree: &Tree, class: u16, domain: u16) -> bool
     })
 }
 
-/// Returns true if the action moves some device of a domain of this class, or below one.
+/// Returns true if the action moves some device of a domain of this class, or of a domain below one.
 fn stirs_below(tree: &Tree, class: u16, action: u16) -> bool
     ensures { result ≡ spec.stirs_below tree.now class action }
 {
@@ -52,7 +55,7 @@ fn stirs_below(tree: &Tree, class: u16, action: u16) -> bool
     })
 }
 
-/// Returns true if a domain is the first of its class.
+/// Returns true if a domain is the first of its class. A doubt about a class is told of this domain alone.
 pub(crate) fn is_first_of_class(tree: &Tree, domain: u16) -> bool
     ensures { result ≡ spec.is_first_of_class tree.now domain }
 {
@@ -60,8 +63,8 @@ pub(crate) fn is_first_of_class(tree: &Tree, domain: u16) -> bool
     !(0..domain).any(|other| class_of(tree, other) == class)
 }
 
-/// Returns true if a domain is the first of its class, accepts the action, and neither it nor any domain of its class
-/// has a device, in it or below, that the action moves.
+/// Returns true if a domain accepts the action, is the first of its class, and no domain of its class has a device, in
+/// it or below, that the action moves.
 pub fn is_idle(tree: &Tree, domain: u16, action: u16) -> bool
     ensures { result ≡ spec.is_idle tree.now domain action }
 {

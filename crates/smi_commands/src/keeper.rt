@@ -1,4 +1,6 @@
-//! The keeper of one domain on its own.
+//! The keeper of one domain on its own, for `smi answer`: its record, and what it answers to a datagram. `answer.rt`
+//! feeds it. docs/PROTOCOL.md, "One domain on its own", fixes what it does; the rules of the record are those of
+//! `smi_grant`, as at every station.
 
 ghost use Rattle.std.specs.Prelude.{◌≡◌, ◌≤◌, true, MatchResult, Ok, Err};
 ghost use Rattle.smi_base.specs.declared.trees.TheConstants.{MOST_STATIONS};
@@ -9,16 +11,17 @@ use smi_grant::{Command, Holder, LAST_NUMBER, Outcome, Record, Verdict};
 use smi_message::{Body, Datagram, DatagramRefusal, decode, encode};
 use std::marker::Model;
 
-/// The number of the domain's tree.
+/// The number of the domain's tree. A datagram of another one is refused. docs/PROTOCOL.md, "One domain on its own",
+/// fixes it, and the next two.
 const TREE: u16 = 17;
 
-/// The station that keeps the domain.
+/// The number of the station that keeps the domain. A datagram to another one is refused.
 const STATION: u16 = 1;
 
-/// The domain: it has no parent, no children and no devices, and accepts every action.
+/// The number of the domain. It has no parent, no children and no devices, and accepts every action.
 const DOMAIN: u16 = 1;
 
-/// What the keeper remembers: the domain's record, one that can be told.
+/// The keeper of the domain, which remembers its record: one that a `TELL` can have.
 #[derive(Drop)]
 pub struct Keeper {
     record: Record,
@@ -48,8 +51,8 @@ impl Keeper {
         }
     }
 
-    /// Returns what the keeper answers to 44 bytes: the record as it is afterwards. A refusal changes nothing, and
-    /// names the first test that the bytes fail.
+    /// Returns what the keeper answers to 44 bytes: a `TELL` with the record as it is afterwards. A refusal changes
+    /// nothing, and names the first test that the bytes fail.
     #[tactic(auto, unfolding(crate::specs::Keeper::answer_to))]
     pub fn answer(&mut self, bytes: &[u8]) -> Result<[u8; 44], DatagramRefusal>
         ensures { MatchResult result
@@ -64,6 +67,8 @@ impl Keeper {
         Ok(encode(&self.tell(datagram.from)))
     }
 
+    /// Updates the record as a datagram asks. Returns the refusal if it is of another tree, for another station, or
+    /// none that a single domain is asked.
     #[tactic(auto, unfolding(crate::specs::Keeper::heard_after))]
     fn hear(&mut self, datagram: &Datagram) -> Result<(), DatagramRefusal>
         ensures { MatchResult result
@@ -80,6 +85,7 @@ impl Keeper {
         Ok(())
     }
 
+    /// Returns the `TELL` of the record to a station.
     fn tell(&self, to: u16) -> Datagram
         requires { (1 ≤ to) × (to ≤ MOST_STATIONS) }
         ensures { result ≡ tell STATION to TREE DOMAIN self.now }
@@ -88,7 +94,8 @@ impl Keeper {
     }
 }
 
-/// Returns the record after what a datagram says, if it speaks of the domain and comes from an operator.
+/// Returns the record after what a datagram says, if that is about the domain and comes from an operator. Returns a
+/// refusal if not.
 #[tactic(auto, unfolding(crate::specs::Keeper::said_after))]
 fn said_after(current: &Record, body: &Body) -> Result<Record, DatagramRefusal>
     requires { is_body body.now ≡ true }
@@ -122,10 +129,12 @@ fn said_after(current: &Record, body: &Body) -> Result<Record, DatagramRefusal>
             let holder = Holder::Operator(operator);
             Ok(run_after(current, holder, epoch, number, command))
         }
+        // Another domain, a holder that is a domain, or a kind that a keeper is not asked.
         _ => Err(DatagramRefusal::Unknown),
     }
 }
 
+/// Returns the record after a verdict: the new one, or the present one if it stays.
 fn after(verdict: Verdict, current: &Record) -> Record
     ensures { result ≡ spec.after verdict current.now }
 {
@@ -135,6 +144,7 @@ fn after(verdict: Verdict, current: &Record) -> Record
     }
 }
 
+/// Returns the record after a command. A command that may not run now changes nothing.
 fn run_after(current: &Record, holder: Holder, epoch: u64, number: u32, command: Command) -> Record
     requires held { spec.is_operator holder ≡ true }
     requires number { number ≤ LAST_NUMBER }
@@ -142,6 +152,7 @@ fn run_after(current: &Record, holder: Holder, epoch: u64, number: u32, command:
 {
     if smi_grant::admit(current, holder, epoch, number) {
         after(
+            // `false`: with no children the command has ended at once.
             smi_grant::start(current, false, outcome_of(command)),
             current,
         )
@@ -150,6 +161,7 @@ fn run_after(current: &Record, holder: Holder, epoch: u64, number: u32, command:
     }
 }
 
+/// Returns the outcome of a command: 0 for `do`, and 2 for the others, because no domain is below this one.
 fn outcome_of(command: Command) -> u16
     ensures { result ≡ spec.outcome_of command }
 {

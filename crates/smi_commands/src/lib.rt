@@ -1,23 +1,23 @@
-//! What the commands without stations do, over any reader, writer and store.
+//! What the commands without stations do, over any reader, writer and store. `smi_program` has the command line and the
+//! files, and `smi_disks` the stores in SQLite.
 //!
 //! [`answer::answer`] is the keeper of one domain over a reader and a writer: what is written is what the keeper's
-//! rules say of the datagrams read. [`check::check`] tells what a tree file declares, and [`check::lint`] also what in
+//! rules say of the datagrams read. [`check::check`] prints what a tree file declares, and [`check::lint`] also what in
 //! it is lawful and surely not meant. [`rows::rows`] lists the stable rows of a store. [`status`] has the exit statuses
-//! and the lines on standard error. The command line, the files and SQLite are in crates above.
+//! and the lines on standard error, which all commands of the program use, nodes and screens too.
 //!
 //! There are six kinds of doubts about a tree: a station with the address of another (`twin_addresses`), an action that
 //! a unit accepts and that moves no device (`idle_actions`), one that a domain does not accept and its parent does
 //! (`refused_actions`), states of members over which no rule holds (`rule_holes`), a state that nothing leads to
 //! (`unreached_states`), and a device that an action moves before anybody has reported it (`obedient_devices`). Each is
-//! a function of the tree, and takes no memory. Searches go through all numbers from 0
-//! to the last. What has a number in a tree has it from 1, and 0 passes no test; as the state of a member it means
-//! one that was not shown yet.
+//! a function of the tree, and takes no memory. Searches go through all numbers from 0 to the last. What has a number
+//! in a tree has it from 1, and 0 passes no test; as the state of a member it means one that was not shown yet.
 //!
 //! # How it is proved
 //!
 //! ## Checking a tree file
 //!
-//! `check` and `lint` answer status 0 or 3 only for a file that `tree_of` accepts, 1 only for one that it refuses, and
+//! `check` and `lint` return status 0 or 3 only for a file that `tree_of` accepts, 1 only for one that it refuses, and
 //! nothing else but 4. The printed line and the fault's line are tested.
 //!
 //! ## Listing the rows of a store
@@ -31,22 +31,22 @@
 //!
 //! - `StoreFault` comes only if the store counted a failure (`failed`).
 //! - `rows` cannot say why the other two come, since std's `Write` counts no failures, and a store no refused memory.
-//! - `list`, which does the work on what `load` answered, can. `Memory` is told if the store answered that memory
-//!   ran out, and not otherwise (`fault`). Of rows that were loaded `WriteFault` is told only if a write or a flush
-//!   failed (`unwritten`).
-//! - Such failures are counted by `Losses`, whose field is private. Its three functions raise the count where the
-//!   writer failed, and nothing else can.
+//! - `list`, which does the work on what `load` answered, can. It returns `Memory` if the store answered that memory
+//!   was refused, and not otherwise (`fault`). Of rows that were loaded it returns `WriteFault` only if a write or a
+//!   flush failed (`unwritten`).
+//! - Such failures are counted by `Losses`, whose field is private. Its three functions raise the count if the writer
+//!   failed, and nothing else can.
 //!
 //! ## Answering
 //!
 //! `answer` is over any reader and writer that tell their bytes. On `Ended` and `Refused` what is written is exactly
 //! the list of answers of the keeper's definition over the datagrams read, from the new record, up to the first
 //! refusal. The result is the definition's (`done`). In every case a prefix of that list is written and nothing else
-//! (`front`). So `Ended` comes only at the reader's end with nothing refused, and `Refused(k, c)` only where datagram
-//! `k` is the first refused, by `c`.
+//! (`front`). So `Ended` comes only at the reader's end with nothing refused, and `Refused(k, c)` only if datagram `k`
+//! is the first that is refused, by `c`.
 //!
-//! - `Keeper::answer` takes one piece of 44 bytes.
-//! - `answer_each` answers the pieces of a block. It says of them, whatever is read later, that the answers to all
+//! - `Keeper::answer` takes 44 bytes.
+//! - `answer_each` answers the datagrams of a block. It says of them, whatever is read later, that the answers to all
 //!   are its answers and those to what is left of the block and to what comes later.
 //! - The loop's invariant (`proofs/Going`) says of three parts that they are the answers to the whole input: what is
 //!   written so far, the answers to the bytes that the block still has, and those to all that is left.

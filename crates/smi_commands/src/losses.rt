@@ -1,4 +1,5 @@
-//! Writes that failed.
+//! Writes through a counter of failures, so that a contract can say that a write fault of `rows` has a cause: std's
+//! `Write` counts none. `rows.rt` writes all that it writes by it. The program never reads the count.
 
 ghost use Rattle.std.specs.Prelude.{◌≡◌, ◌+◌, [], OnOk, OnErr};
 ghost use Rattle.std.specs.Io.KnownBytes.{Appends};
@@ -9,8 +10,8 @@ use smi_rows::Key;
 use std::io::Write;
 use std::marker::Model;
 
-/// How often a writer did not take what it was given, which contracts alone read. Only a write or a
-/// flush that failed counts.
+/// How often a writer did not take what it was given. Contracts alone read it. Only a write or a flush that failed
+/// counts.
 #[derive(Drop)]
 pub(crate) struct Losses {
     losses: Tally,
@@ -25,7 +26,7 @@ impl Model for Losses {
 }
 
 impl Losses {
-    /// Returns a count of nothing lost.
+    /// Makes a count of 0.
     pub(crate) fn new() -> Losses
         ensures { result.count ≡ 0 }
     {
@@ -34,7 +35,7 @@ impl Losses {
         }
     }
 
-    /// Writes all of the bytes.
+    /// Writes all of the bytes, or counts a failure.
     pub(crate) fn write<W: Write>(&mut self, writer: &mut W, bytes: &[u8]) -> Result<(), NotWritten>
         ensures all { OnOk result (Appends (W.contents writer.old) (W.contents writer.new) bytes.now) }
         ensures whole { OnOk result (self.new.count ≡ self.old.count) }
@@ -47,7 +48,8 @@ impl Losses {
         Ok(())
     }
 
-    /// Writes the numbers of a key, each with a space after it.
+    /// Writes the station, the domain and the operator of a key, each with a space after it: `1 2 0 `. Counts a failure
+    /// if it could not.
     pub(crate) fn write_key<W: Write>(&mut self, writer: &mut W, key: Key) -> Result<(), NotWritten>
         ensures all { OnOk result (Appends (W.contents writer.old) (W.contents writer.new) (key_text key)) }
         ensures whole { OnOk result (self.new.count ≡ self.old.count) }
@@ -61,7 +63,7 @@ impl Losses {
         Ok(())
     }
 
-    /// Flushes what was written.
+    /// Flushes what was written, or counts a failure.
     pub(crate) fn flush<W: Write>(&mut self, writer: &mut W) -> Result<(), NotWritten>
         ensures kept { Appends (W.contents writer.old) (W.contents writer.new) [] }
         ensures whole { OnOk result (self.new.count ≡ self.old.count) }

@@ -1,4 +1,6 @@
-//! Devices that an action moves though nobody has reported them, as if the hardware had obeyed.
+//! Finds obedient devices, a kind of doubt (docs/FORMATS.md, "Doubts"): an action moves the device though nobody has
+//! reported it. So a device whose program is dead looks as if its hardware had obeyed. `doubts.rt` calls `is_obedient`;
+//! docs/DECISIONS.md, "The program, its tests and its tools", says why no other moves are doubted.
 
 ghost use Rattle.std.specs.Prelude.{◌≡◌};
 ghost use Rattle.smi_commands.specs.Doubts as spec;
@@ -17,7 +19,7 @@ fn kind_of(tree: &Tree, device: u16) -> u16
     }
 }
 
-/// Returns true if a device is the first of its class.
+/// Returns true if a device is the first of its class. A doubt about a class is told of this device alone.
 fn is_first_of_kind(tree: &Tree, device: u16) -> bool
     ensures { result ≡ spec.is_first_of_kind tree.now device }
 {
@@ -25,7 +27,7 @@ fn is_first_of_kind(tree: &Tree, device: u16) -> bool
     !(0..device).any(|other| kind_of(tree, other) == kind)
 }
 
-/// Returns true if a device begins in this state, and the action moves it out of it.
+/// Returns true if a device begins in the state `first`, and the action moves it out of that state.
 fn moves_from_first(tree: &Tree, device: u16, action: u16, first: u16) -> bool
     ensures { result ≡ spec.moves_from_first tree.now device action first }
 {
@@ -36,6 +38,7 @@ fn moves_from_first(tree: &Tree, device: u16, action: u16, first: u16) -> bool
 fn moves_unreported(tree: &Tree, device: u16, action: u16) -> bool
     ensures { result ≡ spec.moves_unreported tree.now device action }
 {
+    // States have numbers from 1; 0 is the first state of no device.
     (0..tree.state_count() + 1).any(|first| moves_from_first(tree, device, action, first))
 }
 

@@ -1,4 +1,5 @@
-//! Actions that a domain accepts and a domain in it does not.
+//! Finds refused actions, a kind of doubt (docs/FORMATS.md, "Doubts"): a domain accepts the action and one of its
+//! children does not, so each such order from above ends with code 1. `doubts.rt` calls `is_refused`.
 
 ghost use Rattle.std.specs.Prelude.{◌≡◌};
 ghost use Rattle.smi_commands.specs.Doubts as spec;
@@ -7,7 +8,8 @@ use crate::idle_actions::class_of;
 use crate::rule_holes::class_above;
 use smi_tree::Tree;
 
-/// Returns true if a domain is the first of its class in a domain of its parent's class.
+/// Returns true if a domain is the first of its class that lies in a domain of its parent's class. The doubt is told of
+/// this domain alone.
 fn is_first_below(tree: &Tree, domain: u16) -> bool
     ensures { result ≡ spec.is_first_below tree.now domain }
 {
@@ -16,7 +18,7 @@ fn is_first_below(tree: &Tree, domain: u16) -> bool
     !(0..domain).any(|other| class_of(tree, other) == class && class_above(tree, other) == above)
 }
 
-/// Returns true if a domain's parent accepts the action.
+/// Returns true if a domain's parent accepts the action. Returns false for a root.
 fn is_accepted_above(tree: &Tree, domain: u16, action: u16) -> bool
     ensures { result ≡ spec.is_accepted_above tree.now domain action }
 {

@@ -1,4 +1,5 @@
-//! The rows of a store, a line each.
+//! `smi rows`: lists the stable rows of a store, a line each. `crates/smi_disks/src/listing.rt` calls `rows` on a copy
+//! of a store. docs/FORMATS.md, "Stable rows", says what keys and bytes mean; `tools/rows.py` and tests read the lines.
 
 ghost use Rattle.std.specs.Prelude.{◌≡◌, ◌≢◌, ◌/◌, ◌%◌, ◌∷◌, [], ◌<◌, List, ℕ, OnOk, OnErr, IfOk, IfErr};
 ghost use Rattle.std.specs.Io.KnownBytes.{Appends};
@@ -15,14 +16,15 @@ use std::io::Write;
 pub enum Listed {
     /// All rows are written.
     Done,
-    /// The store could not be read. Nothing is written.
+    /// The store could not be read, or nobody knows whether it could. Nothing is written.
     StoreFault,
-    /// A write failed.
+    /// A write or a flush failed. A part of the lines may be written.
     WriteFault,
-    /// There was no memory for the rows. Nothing is written.
+    /// Memory for the rows was refused. Nothing is written.
     Memory,
 }
 
+/// Returns the hexadecimal digit of a number under 16, in small letters.
 fn hex_digit(digit: u8) -> u8
     requires { digit < 16 }
     ensures { result ≡ hex_digit digit }
@@ -34,6 +36,7 @@ fn hex_digit(digit: u8) -> u8
     }
 }
 
+/// Writes bytes in hexadecimal, two digits each.
 fn write_hex<W: Write>(writer: &mut W, losses: &mut Losses, bytes: &[u8]) -> Result<(), NotWritten>
     ensures text { OnOk result (Appends (W.contents writer.old) (W.contents writer.new) (hex_text bytes.now)) }
     ensures whole { OnOk result (losses.new.count ≡ losses.old.count) }
@@ -45,6 +48,7 @@ fn write_hex<W: Write>(writer: &mut W, losses: &mut Losses, bytes: &[u8]) -> Res
     Ok(())
 }
 
+/// Writes the line of a row: its key and its bytes.
 fn write_row<W: Write>(
     writer: &mut W,
     losses: &mut Losses,
@@ -59,6 +63,7 @@ fn write_row<W: Write>(
     losses.write(writer, b"\n")
 }
 
+/// Writes the lines of rows.
 fn write_rows<W: Write>(
     writer: &mut W,
     losses: &mut Losses,
@@ -87,7 +92,7 @@ fn write_listing<W: Write>(
     losses.flush(writer)
 }
 
-/// Lists what a store answered.
+/// Writes what a store answered, and returns how the listing ended.
 fn list<W: Write>(
     loaded: Result<Vec<SavedRow>, StoreFault>,
     writer: &mut W,
@@ -110,8 +115,8 @@ fn list<W: Write>(
     }
 }
 
-/// Writes one line for each row of a store, by rising key: the station, the domain and the operator of
-/// its key and its bytes in hexadecimal, with one space between. (docs/FORMATS.md, "Stable rows".)
+/// Writes one line for each row of a store, by rising key: the station, the domain and the operator of its key and its
+/// bytes in hexadecimal, with one space between. Returns how that ended.
 pub fn rows<S: Stable, W: Write>(stable: &mut S, writer: &mut W) -> Listed
     ensures done { result ≡ Listed.Done → S.is_honest stable.new → S.is_open stable.old →
         (list : List Saved) × IsListing (S.rows stable.old) list

@@ -1,4 +1,10 @@
-//! States of members over which no rule of a unit holds, so that the unit keeps its old state.
+//! Finds holes in the rules of a unit, two kinds of doubt (docs/FORMATS.md, "Doubts"): states of members over which no
+//! rule holds, so that the unit keeps its old state. `doubts.rt` calls `is_unruled`, for members that are all in one
+//! state, and `is_mixed`, for members in several. docs/DECISIONS.md, "The program, its tests and its tools", says why
+//! states are told and not sets of states.
+//!
+//! Searches go through all numbers from 0 to the last. What has a number has it from 1, and 0 passes no test. As the
+//! state of a member, 0 is one that was not shown yet.
 
 ghost use Rattle.std.specs.Prelude.{◌≡◌};
 ghost use Rattle.smi_commands.specs.Doubts as spec;
@@ -31,7 +37,7 @@ fn leaves(tree: &Tree, device: u16, state: u16) -> bool
     (0..tree.action_count() + 1).any(|action| tree.moved(device, state, action) != state)
 }
 
-/// Returns the class of the unit above a domain, 0 for a root.
+/// Returns the class of a domain's parent, 0 for a root.
 pub(crate) fn class_above(tree: &Tree, domain: u16) -> u16
     ensures { result ≡ spec.class_above tree.now domain }
 {
@@ -41,14 +47,14 @@ pub(crate) fn class_above(tree: &Tree, domain: u16) -> u16
     }
 }
 
-/// Returns true if the domain lies in one of this class, and its unit can come to this state.
+/// Returns true if the domain's parent is of this class, and the domain's unit can be in this state.
 fn child_comes(tree: &Tree, class: u16, child: u16, state: u16) -> bool
     ensures { result ≡ spec.child_comes tree.now class child state }
 {
     class_above(tree, child) == class && (begins(tree, child, state) || goes(tree, child, state))
 }
 
-/// Returns true if the device begins in this state.
+/// Returns true if the device begins in this state. Returns false if the tree does not have the device.
 pub(crate) fn device_begins(tree: &Tree, device: u16, state: u16) -> bool
     ensures { result ≡ spec.device_begins tree.now device state }
 {
@@ -57,7 +63,8 @@ pub(crate) fn device_begins(tree: &Tree, device: u16, state: u16) -> bool
         && begins(tree, tree.domain_count() + device, state)
 }
 
-/// Returns true if the device lies in a domain of this class, and its own class names the state.
+/// Returns true if the device is in a domain of this class, and can be in this state: it begins there, or a move of its
+/// class leads there or leaves it.
 fn device_comes(tree: &Tree, class: u16, device: u16, state: u16) -> bool
     ensures { result ≡ spec.device_comes tree.now class device state }
 {
@@ -67,26 +74,27 @@ fn device_comes(tree: &Tree, class: u16, device: u16, state: u16) -> bool
             || leaves(tree, device, state))
 }
 
-/// Returns true if the unit of some child of a domain of this class can come to the state.
+/// Returns true if the unit of some child of a domain of this class can be in this state.
 fn some_child_comes(tree: &Tree, class: u16, state: u16) -> bool
     ensures { result ≡ spec.some_child_comes tree.now class state }
 {
     (0..tree.domain_count() + 1).any(|child| child_comes(tree, class, child, state))
 }
 
-/// Returns true if the class of some device of a domain of this class names the state.
+/// Returns true if some device of a domain of this class can be in this state.
 fn some_device_comes(tree: &Tree, class: u16, state: u16) -> bool
     ensures { result ≡ spec.some_device_comes tree.now class state }
 {
     (0..tree.device_count() + 1).any(|device| device_comes(tree, class, device, state))
 }
 
-/// Returns true if a domain is the first of its class, of which some member can be in this state, and no rule holds if
-/// all are.
+/// Returns true if a domain is the first of its class, some member of a domain of the class can be in this state, and
+/// no rule holds if all members are.
 pub fn is_unruled(tree: &Tree, domain: u16, state: u16) -> bool
     ensures { result ≡ spec.is_unruled tree.now domain state }
 {
     is_first_of_class(tree, domain)
+        // A rule that holds leads to a state from 1 on, so 0, the old state, says that none holds.
         && tree.unit_state(domain, 0, &[state]) == 0
         && is_of_member(tree, class_of(tree, domain), state)
 }
@@ -98,25 +106,26 @@ fn is_of_member(tree: &Tree, class: u16, state: u16) -> bool
     state != 0 && (some_child_comes(tree, class, state) || some_device_comes(tree, class, state))
 }
 
-/// Returns true if a domain is the first of its class, of which some member can be in this state, and no rule holds as
-/// soon as one is.
+/// Returns true if a domain is the first of its class, some member of a domain of the class can be in this state, and
+/// no `any` rule names it.
 fn is_passed_over(tree: &Tree, domain: u16, state: u16) -> bool
     ensures { result ≡ spec.is_passed_over tree.now domain state }
 {
     is_first_of_class(tree, domain)
+        // The second member was not shown yet, so no `all` rule holds.
         && tree.unit_state(domain, 0, &[state, 0]) == 0
         && is_of_member(tree, class_of(tree, domain), state)
 }
 
-/// Returns true if there is another state beside this one that is passed over.
+/// Returns true if another state than this one is passed over too.
 fn passes_over_others(tree: &Tree, domain: u16, state: u16) -> bool
     ensures { result ≡ spec.passes_over_others tree.now domain state }
 {
     (0..tree.state_count() + 1).any(|other| other != state && is_passed_over(tree, domain, other))
 }
 
-/// Returns true if a domain is the first of its class, and this state is one of those over two or more of which no rule
-/// of the class holds, where a domain of the class has two members or more.
+/// Returns true if a domain is the first of its class, some domain of the class has two members or more, and this state
+/// is one of those over two or more of which no rule of the class holds.
 pub fn is_mixed(tree: &Tree, domain: u16, state: u16) -> bool
     ensures { result ≡ spec.is_mixed tree.now domain state }
 {

@@ -1,19 +1,23 @@
-//! The exit status of a command, and its line on standard error.
+//! The exit statuses of the program and its short lines on standard error. Every command uses them, in `smi_program`,
+//! and nodes and screens in `smi_console` and `smi_screen`. docs/NUMBERS.md, "Statuses of the program" and "Lines on
+//! standard error", fixes both: scripts read them. Status 5, of `--service`, is made of 3 in `smi_program`.
 
 ghost use Rattle.std.specs.Prelude.{◌≡◌};
 
 use std::io::Write;
 
-/// How a command ended; its number is the program's exit status.
+/// How a command ended. The number of a variant, from 0 in this order, is the exit status.
 #[derive(Clone, Copy, PartialEq, Eq)]
 pub enum Status {
+    /// All was done: 0.
     Done,
-    /// An input is refused.
+    /// An input is refused: 1.
     Refused,
-    /// The command line is none of the forms.
+    /// The command line is none of the forms: 2.
     WrongLine,
-    /// A read or a write failed, or a store.
+    /// A read, a write or a store failed: 3.
     Fault,
+    /// Memory was refused: 4.
     NoMemory,
 }
 
@@ -29,52 +33,57 @@ impl Status {
     }
 }
 
-/// Tells that the command line is none of the forms.
+/// Writes `wrong line`, which says that the command line is none of the forms, and returns that status.
 ///
 /// No clause names `faults`: what is written there is words, which tests see.
 pub fn wrong_line<F: Write>(faults: &mut F) -> Status
     ensures { result ≡ Status.WrongLine }
 {
+    // If it can't be written, the status says the same.
     let _ = writeln!(faults, "wrong line");
     Status::WrongLine
 }
 
-/// Tells that an input could not be read.
+/// Writes `read fault`, which says that an input could not be read, and returns its status.
 ///
 /// No clause names `faults`: what is written there is words, which tests see.
 pub fn read_fault<F: Write>(faults: &mut F) -> Status
     ensures { result ≡ Status.Fault }
 {
+    // If it can't be written, the status says the same.
     let _ = writeln!(faults, "read fault");
     Status::Fault
 }
 
-/// Tells that an output could not be written.
+/// Writes `write fault`, which says that an output could not be written, and returns its status.
 ///
 /// No clause names `faults`: what is written there is words, which tests see.
 pub fn write_fault<F: Write>(faults: &mut F) -> Status
     ensures { result ≡ Status.Fault }
 {
+    // If it can't be written, the status says the same.
     let _ = writeln!(faults, "write fault");
     Status::Fault
 }
 
-/// Tells that a store could not be opened or read.
+/// Writes `store fault`, which says that a store could not be opened or read, and returns its status.
 ///
 /// No clause names `faults`: what is written there is words, which tests see.
 pub fn store_fault<F: Write>(faults: &mut F) -> Status
     ensures { result ≡ Status.Fault }
 {
+    // If it can't be written, the status says the same.
     let _ = writeln!(faults, "store fault");
     Status::Fault
 }
 
-/// Tells that there was no memory.
+/// Writes `no memory`, which says that memory was refused, and returns its status.
 ///
 /// No clause names `faults`: what is written there is words, which tests see.
 pub fn no_memory<F: Write>(faults: &mut F) -> Status
     ensures { result ≡ Status.NoMemory }
 {
+    // If it can't be written, the status says the same.
     let _ = writeln!(faults, "no memory");
     Status::NoMemory
 }
