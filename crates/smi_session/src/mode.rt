@@ -29,6 +29,7 @@ pub enum ChildMode {
 pub struct ChildState {
     /// The number of the child, a domain, from 1.
     pub child: u16,
+    /// Its mode, of the domain that is its parent.
     pub mode: ChildMode,
 }
 

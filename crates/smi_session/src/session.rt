@@ -43,7 +43,9 @@ pub enum ReplyStyle {
 /// Contracts see both.
 #[derive(Drop)]
 pub struct NumberedLine {
+    /// The number of the line in its session, from 1. Its fault is told with it.
     pub(crate) number: u64,
+    /// The line without its line feed and the carriage return before that.
     pub(crate) line: Vec<u8>,
 }
 

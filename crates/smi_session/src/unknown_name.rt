@@ -84,7 +84,9 @@ fn kinds_of_order(verb: &[u8]) -> (Option<NameKind>, Option<NameKind>)
 /// An unknown name, and the words that follow it in the reply.
 #[derive(Clone, Copy)]
 pub(crate) struct UnknownName<'a> {
+    /// The name, as it is in the line.
     pub(crate) name: &'a [u8],
+    /// What follows it, as `is no device of the tree`.
     pub(crate) message: &'static [u8],
 }
 

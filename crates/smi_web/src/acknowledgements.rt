@@ -1,7 +1,6 @@
 //! The alarms that somebody has acknowledged on a screen's page. `routing.rt` tests the lines of `POST /api/alarms`
 //! here, `page_orders.rt` keeps the list, `orders_json.rt` shows it to all pages, and `order_notes.rt` puts it into the
-//! history. docs/FORMATS.md, "Orders from the page", fixes the line, and docs/DECISIONS.md, "The screen", says why the
-//! list is in no file.
+//! history. docs/FORMATS.md, "Orders from the page", fixes the line. docs/DECISIONS.md says why the list is in no file.
 
 ghost use Rattle.std.specs.Prelude.{◌≡◌, ◌≤◌, ◌<◌, length, vec_capacity, IfSome, OnErr, OnOk};
 ghost use Rattle.smi_tree.specs.Declaration.{two_names};
