@@ -1,7 +1,7 @@
 //! Writes the doubts about a lawful tree file, a line each: what is lawful and surely not meant. `check.rt` calls
 //! `tell` for `smi check --lint`. Which doubts there are, their order and their words are in docs/FORMATS.md, "Doubts",
-//! and `tests/doubts.py` judges them a second time. Whether there is a doubt is decided in the other files that are
-//! used here.
+//! and `tests/doubts.py` judges them a second time. Each kind of doubt is decided in a file of its own, as
+//! `idle_actions.rt`.
 
 ghost use Rattle.std.specs.Prelude.{◌≤◌};
 ghost use Rattle.smi_tree.specs.Lookups.{state_count, action_count, domain_count, device_count};
@@ -183,7 +183,7 @@ fn tell_obedient<W: Write>(tree: &Tree, device: u16, action: u16, writer: &mut W
     writer.write_all(b" though nobody has reported it\n")
 }
 
-/// Writes that no object gets into a state.
+/// Writes that nothing begins in a state and that nothing leads to it.
 fn tell_unreached<W: Write>(tree: &Tree, state: u16, writer: &mut W) -> io::Result<()>
     requires least { 1 ≤ state }
     requires most { state ≤ state_count tree.now }

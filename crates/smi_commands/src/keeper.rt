@@ -67,8 +67,8 @@ impl Keeper {
         Ok(encode(&self.tell(datagram.from)))
     }
 
-    /// Updates the record as a datagram asks. Returns the refusal if it is of another tree, for another station, or
-    /// none that a single domain is asked.
+    /// Updates the record as a datagram asks. Returns a refusal, and changes nothing, if the datagram is of another
+    /// tree, for another station, or asks what a single domain is not asked.
     #[tactic(auto, unfolding(crate::specs::Keeper::heard_after))]
     fn hear(&mut self, datagram: &Datagram) -> Result<(), DatagramRefusal>
         ensures { MatchResult result

@@ -5,7 +5,7 @@
 ghost use Rattle.std.specs.Prelude.{◌≡◌};
 ghost use Rattle.smi_history.specs.LookTime as spec;
 
-/// The time of a look at a picture, in two ways of counting.
+/// The time of a look at a picture, by both clocks.
 #[derive(Clone, Copy)]
 pub struct LookTime {
     /// The time in milliseconds since the screen began, by which the picture has its times. It never goes back.

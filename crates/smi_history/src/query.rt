@@ -56,7 +56,7 @@ fn number_or(number: u64, word: Option<&[u8]>) -> Option<u64>
     }
 }
 
-/// Returns the number that a word of a query is, or Some(None) if the query has no such word. None if the word is no
+/// Returns the number that a word of a query is, or `Some(None)` if the query has no such word. None if the word is no
 /// number of up to ten digits.
 fn number_if_any(word: Option<&[u8]>) -> Option<Option<u64>>
     ensures { result ≡ spec.number_if_any (option_map (λ word. word.now) word.entry) }

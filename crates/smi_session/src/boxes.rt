@@ -15,6 +15,7 @@ pub fn boxed<T: Drop>(alloc: Global, value: T) -> Result<Box<T>, AllocError>
 {
     match Box::new(alloc, value) {
         Ok(value) => Ok(value),
+        // The error hands the value back, which is dropped here.
         Err(_refused) => Err(AllocError),
     }
 }

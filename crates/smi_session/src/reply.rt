@@ -163,6 +163,7 @@ fn push_drops(text: &mut Vec<u8>, drops: Option<u64>) -> Result<(), AllocError> 
         Some(drops) => {
             // Takes the line feed off, so that the number is in the same line.
             let _ = text.pop();
+            // Writing into a Vec fails only if memory is refused.
             writeln!(text, " dropped {drops}").map_err(|_| AllocError)
         }
         None => Ok(()),

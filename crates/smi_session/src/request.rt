@@ -29,8 +29,8 @@ pub enum SessionRequest {
     Withdraw,
 }
 
-/// Returns true if a line may be a query. A script's line without a tag may not be one, because each of its lines has
-/// one line for an answer.
+/// Returns true if a line may be a query. A script's line without a tag may not, because each of them has a single line
+/// as its answer.
 fn may_query(style: ReplyStyle, has_tag: bool) -> bool
     ensures { result ≡ spec.may_query style has_tag }
 {

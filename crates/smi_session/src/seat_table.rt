@@ -103,7 +103,7 @@ fn any_about(queues: &[SeatQueue], operator: Option<u16>, order: Order) -> bool
 }
 
 /// Returns the index of the first queue at which an order of this operator about the same domain is pending, and this
-/// one may join it.
+/// one may join it. None if there is none.
 #[tactic(auto, using(crate::proofs::Seating::within_of))]
 fn place_joined(queues: &[SeatQueue], operator: Option<u16>, order: Order) -> Option<usize>
     ensures place { result ≡ position (joins operator order) queues.now }
@@ -151,7 +151,7 @@ fn have_order(queues: &[SeatQueue], session: u64, tag: &[u8]) -> bool
     queues.iter().any(|queue| queue.has_order(session, tag))
 }
 
-/// Returns the index of the oldest of these orders that is of this session and tag.
+/// Returns the index of the oldest of these orders that is of this session and tag. None if there is none.
 #[tactic(auto, using(crate::proofs::Willing::waits_within))]
 fn place_of(held: &VecDeque<Deferred>, session: u64, tag: &[u8]) -> Option<usize>
     ensures place { result ≡ position (waits_of session tag.now) held.now.items }
@@ -240,14 +240,14 @@ impl SeatTable {
         &self.held
     }
 
-    /// Returns true if no order is pending.
+    /// Returns true if no order is pending, and none waits for a seat.
     pub fn is_idle(&self) -> bool
         ensures { result ≡ is_idle self.now }
     {
         are_idle(self.queues.as_slice()) && self.held.is_empty()
     }
 
-    /// Returns true if an order of this session is pending.
+    /// Returns true if an order of this session is pending, or waits for a seat.
     pub fn has_pending(&self, session: u64) -> bool
         ensures { result ≡ has_pending self.now session }
     {
@@ -466,6 +466,7 @@ impl SeatTable {
         }
         match self.held.push_back(order) {
             Ok(()) => Ok(()),
+            // The error hands the report back, which is dropped here.
             Err(_) => Err(AllocError),
         }
     }

@@ -344,7 +344,8 @@ impl<G: StateReader + Drop> SessionService<G> {
         self.handle_waiting(tree, now, session)
     }
 
-    /// Handles a line at once if it has a tag. Any other is put at the end of the session's waiting lines.
+    /// Handles a line at once if it has a tag. Any other is put at the end of the session's waiting lines, which are
+    /// then handled as far as they may be.
     ///
     /// Fails if memory is refused to the session's output or to its waiting lines. Then orders were given only of the
     /// lines before.
@@ -506,6 +507,7 @@ impl<G: StateReader + Drop> SessionService<G> {
             }
             None => match self.modes.push(state) {
                 Ok(()) => Ok(()),
+                // The error hands the mode back, which is dropped here.
                 Err(_) => Err(AllocError),
             },
         }

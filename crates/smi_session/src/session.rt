@@ -282,6 +282,7 @@ impl Session {
     {
         match self.waiting.push_back(NumberedLine { number, line }) {
             Ok(()) => Ok(()),
+            // The error hands the line back, which is dropped here.
             Err(_) => Err(AllocError),
         }
     }
@@ -312,8 +313,8 @@ impl Session {
         self.is_busy = self.is_busy && tag.is_some();
     }
 
-    /// Keeps an order for which the table of seats has no room, until `give_deferred` takes it. It must keep none
-    /// already.
+    /// Keeps an order for which the table of seats has no room, until `give_deferred` takes it. It must keep none yet:
+    /// the caller takes no line while `has_room` is false.
     pub(crate) fn defer(&mut self, order: Deferred)
         ensures { self.new ≡ record self.old { deferred = Some order } }
     {
@@ -375,6 +376,7 @@ impl Session {
             }
             None => match self.wills.push(will) {
                 Ok(()) => Ok(()),
+                // The error hands the will back, which is dropped here.
                 Err(_) => Err(AllocError),
             },
         }
@@ -390,8 +392,8 @@ impl Session {
         }
     }
 
-    /// Returns the tag of its `follow`, which is None if that line had none, if it follows this object. None if it does
-    /// not.
+    /// Returns Some if it follows this object, with the tag of its `follow`, which is None if that line had none.
+    /// Returns None if it does not follow the object.
     pub(crate) fn state_tag(&self, object: u16) -> Option<Option<Tag>>
         ensures { result ≡ tag_for self.now.states object }
     {
@@ -401,8 +403,8 @@ impl Session {
         }
     }
 
-    /// Returns the tag of its `actions`, which is None if that line had none, if it asked for actions at this object.
-    /// None if it did not.
+    /// Returns Some if it asked for actions at this object, with the tag of its `actions`, which is None if that line
+    /// had none. Returns None if it did not ask for these.
     pub(crate) fn action_tag(&self, object: u16) -> Option<Option<Tag>>
         ensures { result ≡ tag_for self.now.actions object }
     {
@@ -412,7 +414,8 @@ impl Session {
         }
     }
 
-    /// Returns the tag of its `actions`, which is None if that line had none. None if it asked for no actions.
+    /// Returns Some if it asked for any actions, with the tag of its `actions`, which is None if that line had none.
+    /// Returns None if it asked for no actions.
     pub(crate) fn any_action_tag(&self) -> Option<Option<Tag>>
         ensures { result ≡ option_map (λ s. s.tag) self.now.actions }
     {

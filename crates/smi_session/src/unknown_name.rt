@@ -10,7 +10,7 @@ use crate::line::{LineKind, kind_of};
 use crate::query::{Query, numbers_in, query_named};
 use smi_tree::{Tree, first_word};
 
-/// What a name in a line has to be the name of.
+/// The kind of thing that a name in a line has to name.
 #[derive(Clone, Copy)]
 pub(crate) enum NameKind {
     /// An operator of this station.

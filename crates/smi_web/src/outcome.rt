@@ -12,7 +12,7 @@ use smi_tree::number_within;
 const MOST_CODE: u64 = 99;
 
 /// Returns the code with which an order was answered. To the line `order ANN take DCS` the answer `told ANN take DCS 0`
-/// has code 0. None if anything else was answered, as to an `ask` or a `withdraw N`.
+/// has code 0. None if anything else was answered, as a record to an `ask`, or if the line is `withdraw N`.
 pub fn code_of(line: &[u8], answer: &[u8]) -> Option<u64>
     ensures { result ≡ spec.code_of line.now answer.now }
 {

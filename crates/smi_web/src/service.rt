@@ -192,7 +192,7 @@ fn refuse_query(response: &mut Response) -> Result<(), AllocError>
     )
 }
 
-/// Fills in the refusal of a method, with the methods that there are.
+/// Fills in the refusal of a method, with the two that only read.
 fn refuse_change(response: &mut Response) -> Result<(), AllocError>
     ensures status { OnOk result (response.new.status ≡ 405) }
     ensures headers { OnOk result (fields_of response.new

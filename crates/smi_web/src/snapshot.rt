@@ -36,7 +36,8 @@ pub struct Snapshot {
     pub changes: Bytes,
     /// The metrics of the picture, in Prometheus' text format.
     pub metrics: Bytes,
-    /// The orders of the page, the modes and the acknowledged alarms, as JSON. It is empty if orders may not be given.
+    /// The orders of the page, the modes and the acknowledged alarms, as JSON. It is empty until `renew_orders`, and
+    /// stays so if orders may not be given.
     pub orders: Bytes,
 }
 
