@@ -1,4 +1,8 @@
-//! A connection and its session.
+//! Reads the lines of one connection, has its session handle them, and writes what the session is to be told.
+//!
+//! `connection_set` has the connections and calls each once a round, on the thread of the sessions. No call waits: a
+//! connection does what its socket allows, and remembers what it could not do. docs/FORMATS.md, "Connections", says
+//! when a connection ends.
 
 use crate::listener::Stream;
 use crate::typed_lines::TypedLines;
@@ -13,52 +17,61 @@ use std::sync::Wait;
 use std::time::{Duration, Instant};
 
 /// How many bytes are read at once.
-const AT_ONCE: usize = 512;
+const BLOCK_BYTES: usize = 512;
 
-/// How many reads, and how many lines, a connection has in one round.
-const READS: usize = 64;
+/// The most reads for one line in one round: with 512 bytes each many times the longest line. The bound is there so
+/// that the loop ends, and the rest is read in the next round.
+const MOST_READS: usize = 64;
 
-const LINES: usize = 32;
+/// The most lines of a connection that are handled in one round, so that the others get their turn.
+const MOST_LINES: usize = 32;
 
-/// How long a connection may take nothing of its output, in seconds. Then it is closed, because its output must not be
-/// kept without end, and no other connection may wait for it.
-const WRITE_TIMEOUT: u64 = 2;
+/// How many seconds a connection may take nothing of its output. Then it is closed, because its output must not be kept
+/// without end, and no other connection may wait for it. docs/FORMATS.md, "Connections", names it.
+const WRITE_TIMEOUT_SECONDS: u64 = 2;
 
 /// A connection and its session.
 #[derive(Drop)]
 pub(crate) struct Connection {
     alloc: Global,
-    /// The place of its listener.
+    /// The index of its listener, from 0.
     listener: usize,
     stream: Stream,
+    /// The sender of its lines to the journal.
     typed: TypedLines,
+    /// What it asked for, and what it is to be told.
     session: Session,
+    /// What it sent that is not handled yet.
     splitter: LineSplitter,
-    /// True if there may be something to read; true if there may be room to write.
+    /// True if there may be something to read. The poll tells of new bytes once, so this stays true until a read finds
+    /// none.
     can_read: bool,
+    /// True if the socket may take bytes. It stays true until a write finds that it does not.
     can_write: bool,
     /// True if its client has closed its side.
     read_closed: bool,
     /// True if its client takes no more output.
     write_closed: bool,
-    /// Since when it has taken nothing of its output, or takes no more.
-    since: Option<Instant>,
-    /// When it came, or typed its last line.
-    heard: Option<Instant>,
+    /// Since when it has taken nothing of its output, or takes no more. None if no output waits.
+    stuck_since: Option<Instant>,
+    /// When it typed its last line, or when it came. None if the clock failed then.
+    last_line_at: Option<Instant>,
+    /// True if it is to be closed at the end of the round.
     should_close: bool,
 }
 
 /// The outcome of a read.
-enum Read {
-    Some,
+enum BlockRead {
+    /// Bytes have come.
+    Bytes,
+    /// Nothing has come, or nothing more will.
     Nothing,
 }
 
 impl Connection {
-    /// Returns a connection of this number, to the listener at this place, over which nothing was typed and which came
-    /// now.
+    /// Makes a connection of this number, to the listener of this index, that came now and has typed nothing.
     ///
-    /// Its error is that memory was refused.
+    /// Fails if memory was refused.
     pub(crate) fn new(
         alloc: Global,
         (number, listener): (u64, usize),
@@ -77,13 +90,13 @@ impl Connection {
             can_write: true,
             read_closed: false,
             write_closed: false,
-            since: None,
-            heard: now,
+            stuck_since: None,
+            last_line_at: now,
             should_close: false,
         })
     }
 
-    /// Returns true if it takes a place of the listener at this place.
+    /// Returns true if it counts as a connection of the listener of this index: one that is to be closed does not.
     pub(crate) fn is_at(&self, listener: usize) -> bool {
         self.listener == listener && !self.should_close
     }
@@ -93,7 +106,7 @@ impl Connection {
         self.session.has_subscription()
     }
 
-    /// Returns its number.
+    /// Returns its number, which is that of its session and its token at the poll.
     pub(crate) fn number(&self) -> u64 {
         self.session.number()
     }
@@ -108,9 +121,10 @@ impl Connection {
         self.should_close = true;
     }
 
-    /// Tells it this, as far as there is room, and marks it to be closed.
-    pub(crate) fn dismiss(&mut self, words: &[u8]) {
-        let _ = self.stream.write(words);
+    /// Writes this reply, as far as the socket takes it, and marks the connection to be closed.
+    pub(crate) fn dismiss(&mut self, reply: &[u8]) {
+        // A client that does not take the reply is closed all the same.
+        let _ = self.stream.write(reply);
         self.should_close = true;
     }
 
@@ -126,32 +140,34 @@ impl Connection {
             && !sessions.has_pending(self.session.number())
     }
 
-    /// Returns for how long it has typed nothing.
+    /// Returns for how long it has typed nothing, or zero if the clock failed.
     pub(crate) fn silence(&self, now: Option<Instant>) -> Duration {
-        match (now, self.heard) {
+        match (now, self.last_line_at) {
             (Some(now), Some(heard)) => now.duration_since(heard),
             _ => Duration::ZERO,
         }
     }
 
-    /// Takes in what the system says of its connection.
+    /// Records what the poll says of its socket.
     pub(crate) fn handle_event(&mut self, event: &Event) {
         self.can_read = self.can_read || event.is_readable() || event.is_read_closed();
         self.can_write = self.can_write || event.is_writable();
         self.write_closed = self.write_closed || event.is_write_closed() || event.is_error();
     }
 
-    /// Reads once.
-    fn read(&mut self) -> Result<Read, AllocError> {
+    /// Reads a block into the splitter. Remembers that the client has closed its side, or that the socket failed.
+    ///
+    /// Fails if memory was refused.
+    fn read(&mut self) -> Result<BlockRead, AllocError> {
         if !self.can_read || self.read_closed {
-            return Ok(Read::Nothing);
+            return Ok(BlockRead::Nothing);
         }
-        let mut block = [0u8; AT_ONCE];
+        let mut block = [0u8; BLOCK_BYTES];
         match self.stream.read(&mut block) {
             Ok(0) => self.read_closed = true,
             Ok(count) => {
                 self.splitter.push(block.get(..count).unwrap_or(&[]))?;
-                return Ok(Read::Some);
+                return Ok(BlockRead::Bytes);
             }
             Err(e) if e.kind() == ErrorKind::WouldBlock => self.can_read = false,
             Err(e) if e.kind() == ErrorKind::Interrupted => {}
@@ -160,25 +176,31 @@ impl Connection {
                 self.write_closed = true;
             }
         }
-        Ok(Read::Nothing)
+        Ok(BlockRead::Nothing)
     }
 
-    /// Returns the next line that it typed.
+    /// Returns the next line that it typed, or None if no whole line has come. After the client has closed its side,
+    /// the rest without a line feed is a line too.
+    ///
+    /// Fails if memory was refused.
     fn next_line(&mut self) -> Result<Option<Vec<u8>>, AllocError> {
-        for _ in 0..READS {
+        for _ in 0..MOST_READS {
             if let Some(line) = self.splitter.next_line()? {
                 return Ok(Some(line));
             }
             match self.read()? {
-                Read::Some => {}
-                Read::Nothing if self.read_closed => return self.splitter.last_line(),
-                Read::Nothing => return Ok(None),
+                BlockRead::Bytes => {}
+                BlockRead::Nothing if self.read_closed => return self.splitter.last_line(),
+                BlockRead::Nothing => return Ok(None),
             }
         }
         Ok(None)
     }
 
-    /// Handles its lines.
+    /// Delivers events to its session, lets the session go on with lines that wait, and handles up to `MOST_LINES` new
+    /// ones.
+    ///
+    /// Fails if memory was refused.
     fn serve_lines<G: StateReader + Drop, R: Wait>(
         &mut self,
         rt: &R,
@@ -188,15 +210,15 @@ impl Connection {
     ) -> Result<(), AllocError> {
         sessions.deliver_events(tree, &mut self.session)?;
         sessions.resume(tree, now, &mut self.session)?;
-        for _ in 0..LINES {
+        for _ in 0..MOST_LINES {
             if !self.session.has_room() {
                 return Ok(());
             }
             match self.next_line()? {
                 Some(line) => {
-                    self.heard = now;
+                    self.last_line_at = now;
                     let session = self.session.number();
-                    self.typed.tell(rt, self.alloc, session, line.as_slice());
+                    self.typed.send(rt, self.alloc, session, line.as_slice());
                     sessions.receive_line(tree, now, &mut self.session, line)?;
                 }
                 None => return Ok(()),
@@ -205,16 +227,17 @@ impl Connection {
         Ok(())
     }
 
-    /// Writes what it is to be told, as far as there is room.
+    /// Writes what it is to be told, as far as the socket takes it, and measures since when it takes nothing. Drops all
+    /// output if its client takes no more.
     fn write(&mut self, now: Option<Instant>) {
         if self.write_closed {
             self.session.consume(usize::MAX);
         } else if self.session.output().is_empty() {
-            self.since = None;
+            self.stuck_since = None;
             return;
         }
-        if self.since.is_none() {
-            self.since = now;
+        if self.stuck_since.is_none() {
+            self.stuck_since = now;
         }
         if self.write_closed || !self.can_write {
             return;
@@ -222,7 +245,7 @@ impl Connection {
         match self.stream.write(self.session.output()) {
             Ok(count) => {
                 self.session.consume(count);
-                self.since = now;
+                self.stuck_since = now;
             }
             Err(e) if e.kind() == ErrorKind::WouldBlock => self.can_write = false,
             Err(e) if e.kind() == ErrorKind::Interrupted => {}
@@ -230,17 +253,21 @@ impl Connection {
         }
     }
 
-    /// Returns true if it takes too little of what it is told.
+    /// Returns true if it has taken nothing of its output for `WRITE_TIMEOUT_SECONDS`, or has more bytes unsent than a
+    /// session may have.
     fn is_stuck(&self, now: Option<Instant>) -> bool {
-        let is_late = match (now, self.since) {
-            (Some(now), Some(since)) => now.duration_since(since).as_secs() >= WRITE_TIMEOUT,
+        let is_late = match (now, self.stuck_since) {
+            (Some(now), Some(since)) => now.duration_since(since).as_secs()
+                >= WRITE_TIMEOUT_SECONDS,
             _ => false,
         };
         is_late || self.session.output().len() > MOST_UNSENT
     }
 
-    /// Sends the answer if this connection gave the order, and returns whether it did. Closes it if out of memory.
-    pub(crate) fn is_answered<G: StateReader + Drop>(
+    /// Adds the answer to its output if this connection gave the order, and returns whether it did.
+    ///
+    /// If memory is refused, the connection is closed, because its client would wait for that answer in vain.
+    pub(crate) fn deliver_answer<G: StateReader + Drop>(
         &mut self,
         sessions: &mut SessionService<G>,
         tree: &Tree,
@@ -255,11 +282,12 @@ impl Connection {
         }
     }
 
-    /// Drops what else a refused client has sent, because a connection that is closed with bytes unread is reset, and
-    /// then the client might not see what it is told.
+    /// Reads and drops what else a refused client has sent. A connection that is closed with bytes unread is reset, and
+    /// then the client might not see what it was told.
     fn drop_unread(&mut self) {
-        let mut block = [0u8; AT_ONCE];
-        for _ in 0..READS {
+        let mut block = [0u8; BLOCK_BYTES];
+        // The bound is there so that the loop ends: a client may send without end.
+        for _ in 0..MOST_READS {
             match self.stream.read(&mut block) {
                 Ok(0) | Err(_) => return,
                 Ok(_) => {}
@@ -267,13 +295,15 @@ impl Connection {
         }
     }
 
-    /// Returns true if a refused client was told its fault.
-    fn is_turned_away(&self) -> bool {
+    /// Returns true if a refused client was sent its fault.
+    fn is_refusal_sent(&self) -> bool {
         self.session.is_refused() && self.session.output().is_empty()
     }
 
-    /// Returns true if all its lines are answered, or its client is gone. One with a will ends as soon as it sends no
-    /// more: so ends a program that was killed.
+    /// Returns true if its client sends no more and either all its lines are answered or the client is gone.
+    ///
+    /// A connection with a will is done as soon as it sends no more, because a program that was killed can't be told
+    /// apart from one that has closed its side.
     fn is_done<G: StateReader + Drop>(&self, sessions: &SessionService<G>) -> bool {
         self.read_closed
             && self.splitter.is_empty()
@@ -284,17 +314,17 @@ impl Connection {
                 || !self.session.has_subscription() && !sessions.has_pending(self.session.number()))
     }
 
-    /// Reports what it has left to be reported when it ends.
+    /// Reports the states that its client has set as wills, because it ends.
     pub(crate) fn execute_wills<G: StateReader + Drop>(
         &self,
         sessions: &mut SessionService<G>,
         now: Option<Instant>,
     ) {
-        // Without memory nobody is left who could be told.
+        // Without memory these reports are lost, and the client, which is gone, can't be told.
         let _ = sessions.execute_wills(now, &self.session);
     }
 
-    /// Handles its lines, and writes what it is to be told, as far as nothing waits.
+    /// Serves it for one round: handles its lines, writes its output, and decides whether it is to be closed.
     pub(crate) fn turn<G: StateReader + Drop, R: Wait>(
         &mut self,
         rt: &R,
@@ -310,24 +340,24 @@ impl Connection {
         }
         self.write(now);
         self.should_close = self.should_close
-            || self.is_turned_away()
+            || self.is_refusal_sent()
             || self.is_done(sessions)
             || self.is_stuck(now);
     }
 
-    /// Returns true if it can go on without waiting.
+    /// Returns true if it has more to read or to write at once, so that the poll must not wait.
     pub(crate) fn can_go_on(&self) -> bool {
-        let can_hear = !self.splitter.is_empty() || self.can_read && !self.read_closed;
-        can_hear && self.session.has_room() || self.can_write && self.has_unsent()
+        let can_take_line = !self.splitter.is_empty() || self.can_read && !self.read_closed;
+        can_take_line && self.session.has_room() || self.can_write && self.has_unsent()
     }
 
-    /// Returns true if it has something to be told.
+    /// Returns true if it has output that is not written.
     fn has_unsent(&self) -> bool {
         !self.session.output().is_empty()
     }
 
-    /// Returns true if it has a deadline.
+    /// Returns true if it has a deadline, that of its write.
     pub(crate) fn is_timed(&self) -> bool {
-        self.since.is_some()
+        self.stuck_since.is_some()
     }
 }

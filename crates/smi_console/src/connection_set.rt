@@ -1,4 +1,8 @@
-//! The sessions of a node: the standard input, and connections.
+//! Accepts the connections of a node, polls them, and lets each session read and write as far as nothing waits.
+//!
+//! `console_loop` calls it once a round, on the thread of the sessions. docs/FORMATS.md, "Connections", says what
+//! clients see of it: how many connections a listener takes, and which one makes room for a new one. The session of the
+//! standard input is here too; its lines come from `stdin` and its output goes to `stdout`, over channels.
 
 use crate::connection::Connection;
 use crate::listener::{ListenAddress, ListenSocket, Stream};
@@ -15,35 +19,43 @@ use std::net::Net;
 use std::sync::Wait;
 use std::time::{Duration, Instant};
 
-/// The most connections at once at one listener: so programs at one never shut people out who come to the other.
+/// The most connections at once at one listener. Each listener has its own, so programs at one never shut people out
+/// at the other. docs/FORMATS.md names it.
 const MOST_CONNECTIONS: usize = 128;
 
-/// What a connection is told if there is no room for it.
-const FULL: &[u8] = b"full\n";
+/// What the node writes to a connection that it closes for want of room (docs/FORMATS.md).
+const FULL_REPLY: &[u8] = b"full\n";
 
-/// For how many seconds a connection must have typed nothing before it has to make room for a new one.
-const SILENCE: u64 = 30;
+/// For how many seconds a connection must have typed nothing before it has to make room for a new one. It is long, so
+/// that a burst of new connections does not end connections that are just beginning. docs/FORMATS.md names it.
+const SILENT_SECONDS: u64 = 30;
 
-/// How many connections are taken in one round, and how many events are looked at.
+/// The most connections that are accepted at one listener in one round. The others wait for the next round, so that new
+/// connections do not hold up those that are there.
 const MOST_ACCEPTS: usize = 16;
 
-const EVENTS: usize = 128;
+/// The most events that one poll returns. The system keeps further ones for the next poll.
+const MOST_EVENTS: usize = 128;
 
-/// The number by which the waker wakes, that of the first listener, and that of the first connection. The session of
-/// the standard input has the number of the waker.
-const WAKER: usize = 0;
+/// The poll's token of the waker. The session of the standard input has the same number, and no socket in the poll.
+const WAKER_TOKEN: usize = 0;
 
+/// The poll's token of the first listener; the next one has the next number.
 const FIRST_LISTENER: usize = 1;
 
+/// The number of the first connection, which is its token too. Journals tell it (docs/FORMATS.md, "Journals"). It is
+/// larger than the token of any listener.
 const FIRST_CONNECTION: u64 = 1_000;
 
-/// Longest poll timeout while any connection has a deadline, in milliseconds.
-const POLL_LIMIT: u64 = 100;
+/// The longest poll timeout in milliseconds while something may have to be done that no event tells: an answer, a write
+/// that has a deadline, or a listener that failed to accept.
+const POLL_LIMIT_MS: u64 = 100;
 
-/// A listener, and whether a connection may wait there.
+/// A listener of the node.
 #[derive(Drop)]
 struct Listener {
     socket: ListenSocket,
+    /// True if a connection may wait there.
     is_ready: bool,
 }
 
@@ -51,27 +63,32 @@ struct Listener {
 #[derive(Drop)]
 pub(crate) struct ConnectionSet {
     alloc: Global,
-    /// The session of the standard input, and how that ended.
+    /// The session of the standard input.
     pub(crate) stdin: Session,
+    /// How the standard input ended. None if lines of it may still come.
     pub(crate) ending: Option<InputEnd>,
+    /// True if the session of the standard input missed something, because memory was refused.
     is_stdin_lost: bool,
+    /// The open connections, the first one being the next that is served.
     connections: Vec<Connection>,
+    /// The listeners, in the order of the command line.
     listeners: Vec<Listener>,
-    next: u64,
-    /// The channel to which typed lines go.
+    /// The number of the next connection. A number is not used again, so that no answer goes to a later connection.
+    next_number: u64,
+    /// The sender of typed lines to the journal.
     pub(crate) typed: TypedLines,
     poll: Poll,
     events: Events<Global>,
 }
 
-/// Adds a listener at this place, known to the poll by its number.
+/// Opens a listener at this address or path, and adds it under the next token.
 fn add_listener<R: Files + Net>(
     rt: &R,
-    place: &ListenAddress,
+    address: &ListenAddress,
     registry: &Registry,
     listeners: &mut Vec<Listener>,
 ) -> io::Result<()> {
-    let mut socket = ListenSocket::open(rt, place)?;
+    let mut socket = ListenSocket::open(rt, address)?;
     socket.register(registry, listeners.len().saturating_add(FIRST_LISTENER))?;
     listeners.push(Listener {
         socket,
@@ -80,35 +97,36 @@ fn add_listener<R: Files + Net>(
     Ok(())
 }
 
-/// Adds listeners at these places, each known to the poll by its number.
+/// Opens a listener at each of these addresses and paths, and adds them.
 fn open_listeners<R: Files + Net>(
     rt: &R,
-    places: &[ListenAddress],
+    addresses: &[ListenAddress],
     registry: &Registry,
     listeners: &mut Vec<Listener>,
 ) -> io::Result<()> {
-    for place in places {
-        add_listener(rt, place, registry, listeners)?;
+    for address in addresses {
+        add_listener(rt, address, registry, listeners)?;
     }
     Ok(())
 }
 
-/// Marks the listener or the connection with this token as ready.
+/// Marks the listener or the connection that an event is of as ready. Ignores the event of the waker, which only ends
+/// the poll.
 fn handle_event(listeners: &mut [Listener], connections: &mut [Connection], event: &Event) {
-    let Token(number) = event.token();
-    if let Some(place) = number.checked_sub(FIRST_LISTENER) {
-        if let Some(listener) = listeners.get_mut(place) {
+    let Token(token) = event.token();
+    if let Some(index) = token.checked_sub(FIRST_LISTENER) {
+        if let Some(listener) = listeners.get_mut(index) {
             listener.is_ready = true;
         }
     }
     for connection in connections.iter_mut() {
-        if usize::try_from(connection.number()) == Ok(number) {
+        if usize::try_from(connection.number()) == Ok(token) {
             connection.handle_event(event);
         }
     }
 }
 
-/// Tells an answer to the connection that gave its order, if that is one of these.
+/// Delivers an answer to the connection that gave its order, if it is one of these.
 fn deliver_to_connection<G: StateReader + Drop>(
     connections: &mut [Connection],
     sessions: &mut SessionService<G>,
@@ -116,7 +134,7 @@ fn deliver_to_connection<G: StateReader + Drop>(
     answered: &SeatAnswer,
 ) {
     for connection in connections.iter_mut() {
-        if connection.is_answered(sessions, tree, answered) {
+        if connection.deliver_answer(sessions, tree, answered) {
             return;
         }
     }
@@ -130,7 +148,7 @@ impl ConnectionSet {
         listeners: Vec<Listener>,
     ) -> Result<Box<ConnectionSet>, AllocError> {
         let stdin = Session::new(alloc, 0, ReplyStyle::Script)?;
-        let events = Events::with_capacity(alloc, EVENTS)?;
+        let events = Events::with_capacity(alloc, MOST_EVENTS)?;
         let connections = ConnectionSet {
             alloc,
             stdin,
@@ -138,7 +156,7 @@ impl ConnectionSet {
             is_stdin_lost: false,
             connections: Vec::new(alloc),
             listeners,
-            next: FIRST_CONNECTION,
+            next_number: FIRST_CONNECTION,
             typed: TypedLines::new(None),
             poll,
             events,
@@ -146,16 +164,16 @@ impl ConnectionSet {
         boxed(alloc, connections)
     }
 
-    /// Opens a set that listens at each of these places, and a waker for it.
+    /// Opens a set that listens at each of these addresses and paths, and a waker of its poll.
     pub(crate) fn open<R: Files + Net>(
         rt: &R,
         alloc: Global,
-        places: &[ListenAddress],
+        addresses: &[ListenAddress],
     ) -> io::Result<(Box<ConnectionSet>, Waker)> {
         let poll = Poll::new(rt)?;
-        let waker = Waker::new(poll.registry(), Token(WAKER))?;
+        let waker = Waker::new(poll.registry(), Token(WAKER_TOKEN))?;
         let mut listeners = Vec::new(alloc);
-        open_listeners(rt, places, poll.registry(), &mut listeners)?;
+        open_listeners(rt, addresses, poll.registry(), &mut listeners)?;
         Ok((
             ConnectionSet::with_listeners(alloc, poll, listeners)?,
             waker,
@@ -167,9 +185,9 @@ impl ConnectionSet {
         &mut self.stdin
     }
 
-    /// Tells a line of the standard input to the journal, before it is heard.
-    pub(crate) fn tell_stdin<R: Wait>(&self, rt: &R, line: &[u8]) {
-        self.typed.tell(rt, self.alloc, self.stdin.number(), line);
+    /// Sends a line of the standard input to the journal, before the line is handled.
+    pub(crate) fn send_to_journal<R: Wait>(&self, rt: &R, line: &[u8]) {
+        self.typed.send(rt, self.alloc, self.stdin.number(), line);
     }
 
     /// Returns true if nothing but the standard input can talk to the node.
@@ -177,8 +195,8 @@ impl ConnectionSet {
         self.listeners.is_empty()
     }
 
-    /// Tells an answer to its session, if that is still open.
-    pub(crate) fn tell_answer<G: StateReader + Drop>(
+    /// Delivers an answer to the session that gave its order, if that is still open.
+    pub(crate) fn deliver_answer<G: StateReader + Drop>(
         &mut self,
         sessions: &mut SessionService<G>,
         tree: &Tree,
@@ -200,7 +218,8 @@ impl ConnectionSet {
                 .any(|connection| connection.follows())
     }
 
-    /// Marks those that follow states or actions as lost: not all can be told any more.
+    /// Marks the standard input as lost and closes each connection, as far as they follow states or actions: memory was
+    /// refused, so they have missed an event.
     pub(crate) fn lose_followers(&mut self) {
         self.is_stdin_lost = self.is_stdin_lost || self.stdin.has_subscription();
         for connection in self.connections.iter_mut() {
@@ -210,97 +229,111 @@ impl ConnectionSet {
         }
     }
 
-    /// Returns true if the standard input can't be told all any more.
+    /// Returns true if the session of the standard input has missed something, because memory was refused.
     pub(crate) fn is_stdin_lost(&self) -> bool {
         self.is_stdin_lost
     }
 
-    /// Returns true if a listener has as many connections as it may have.
-    fn is_full(&self, place: usize) -> bool {
+    /// Returns true if the listener of this index has as many connections as it may have.
+    fn is_full(&self, listener: usize) -> bool {
         let connections = self
             .connections
             .iter()
-            .filter(|connection| connection.is_at(place));
+            .filter(|connection| connection.is_at(listener));
         connections.count() >= MOST_CONNECTIONS
     }
 
-    /// Closes the connection of a listener that has typed nothing for longest, if nobody waits for what it does. So
-    /// connections that nobody uses shut nobody out.
+    /// Closes the connection that has typed nothing for longest, of those at this listener that nobody uses
+    /// (`is_idle`) and that are silent for `SILENT_SECONDS`. Closes none if there is no such connection.
     fn make_room<G: StateReader + Drop>(
         &mut self,
-        place: usize,
+        listener: usize,
         sessions: &SessionService<G>,
         now: Option<Instant>,
     ) {
-        let mut longest = Duration::from_secs(SILENCE);
+        let mut longest = Duration::from_secs(SILENT_SECONDS);
         let mut oldest = None;
-        for (at, connection) in self.connections.iter().enumerate() {
-            if connection.is_at(place)
+        for (index, connection) in self.connections.iter().enumerate() {
+            if connection.is_at(listener)
                 && connection.silence(now) >= longest
                 && connection.is_idle(sessions)
             {
                 longest = connection.silence(now);
-                oldest = Some(at);
+                oldest = Some(index);
             }
         }
-        if let Some(connection) = oldest.and_then(|at| self.connections.get_mut(at)) {
-            connection.dismiss(FULL);
+        if let Some(connection) = oldest.and_then(|index| self.connections.get_mut(index)) {
+            connection.dismiss(FULL_REPLY);
         }
     }
 
-    /// Takes a new connection of a listener in.
+    /// Adds a new connection of a listener under the next number, or closes it if the listener is full or the poll does
+    /// not take its socket.
+    ///
+    /// Fails if memory was refused: then the connection is closed too.
     fn add_connection(
         &mut self,
-        place: usize,
+        listener: usize,
         stream: Stream,
         now: Option<Instant>,
     ) -> Result<(), AllocError> {
         let mut stream = stream;
-        if self.is_full(place) {
-            let _ = stream.write(FULL);
+        if self.is_full(listener) {
+            // A new socket takes five bytes; if it does not, its client is closed without a word.
+            let _ = stream.write(FULL_REPLY);
             return Ok(());
         }
-        let number = self.next;
-        self.next = number.saturating_add(1);
+        let number = self.next_number;
+        self.next_number = number.saturating_add(1);
         if let Ok(token) = usize::try_from(number) {
             if stream.register(self.poll.registry(), token).is_ok() {
                 let typed = self.typed.try_clone()?;
-                let connection = Connection::new(self.alloc, (number, place), stream, typed, now)?;
+                let connection = Connection::new(
+                    self.alloc,
+                    (number, listener),
+                    stream,
+                    typed,
+                    now,
+                )?;
                 self.connections.push(connection)?;
             }
         }
         Ok(())
     }
 
-    /// Accepts the next connection of a listener, if one waits.
-    fn accept_next(&mut self, place: usize) -> Option<Stream> {
-        let listener = self.listeners.get_mut(place)?;
+    /// Accepts the next connection of the listener of this index. Returns None if no connection waits or the accept
+    /// fails.
+    fn accept_next(&mut self, index: usize) -> Option<Stream> {
+        let listener = self.listeners.get_mut(index)?;
         if !listener.is_ready {
             return None;
         }
         match listener.socket.accept() {
             Ok(stream) => Some(stream),
             Err(e) => {
+                // After any other error, as no free descriptor, the connection still waits: it is tried again.
                 listener.is_ready = e.kind() != io::ErrorKind::WouldBlock;
                 None
             }
         }
     }
 
-    /// Accepts the connections that wait. If a listener has as many as it may have, one that nobody uses is closed.
+    /// Accepts the connections that wait, `MOST_ACCEPTS` at each listener at most. If a listener is full, closes one
+    /// that nobody uses.
     pub(crate) fn accept_all<G: StateReader + Drop>(
         &mut self,
         sessions: &SessionService<G>,
         now: Option<Instant>,
     ) {
-        for place in 0..self.listeners.len() {
+        for listener in 0..self.listeners.len() {
             for _ in 0..MOST_ACCEPTS {
-                match self.accept_next(place) {
+                match self.accept_next(listener) {
                     Some(stream) => {
-                        if self.is_full(place) {
-                            self.make_room(place, sessions, now);
+                        if self.is_full(listener) {
+                            self.make_room(listener, sessions, now);
                         }
-                        let _ = self.add_connection(place, stream, now);
+                        // Without memory the new connection is closed, and the others go on.
+                        let _ = self.add_connection(listener, stream, now);
                     }
                     None => break,
                 }
@@ -308,8 +341,10 @@ impl ConnectionSet {
         }
     }
 
-    /// Reads and writes each connection, as far as nothing waits, and closes those that are done. Another one is first
-    /// in the next round: what one takes first, as a free place at a seat, the others don't get.
+    /// Reads and writes each connection, as far as nothing waits, and closes those that are done.
+    ///
+    /// Another connection is first in the next round, because the first one may take what the others then don't get, as
+    /// the free place at a seat.
     pub(crate) fn serve_all<G: StateReader + Drop, R: Wait>(
         &mut self,
         rt: &R,
@@ -330,7 +365,8 @@ impl ConnectionSet {
         }
     }
 
-    /// Returns the longest poll timeout, none if no connection has a deadline.
+    /// Returns how long the next poll may wait: not at all if somebody has more to do, `POLL_LIMIT_MS` if something may
+    /// have to be done that no event tells, and else None, which is without end.
     fn poll_timeout<G: StateReader + Drop>(
         &self,
         sessions: &SessionService<G>,
@@ -352,13 +388,14 @@ impl ConnectionSet {
                 .iter()
                 .any(|connection| connection.is_timed());
         if has_deadline {
-            Some(Duration::from_millis(POLL_LIMIT))
+            Some(Duration::from_millis(POLL_LIMIT_MS))
         } else {
             None
         }
     }
 
-    /// Waits until something comes, or until it is time to look again. Whether it could wait.
+    /// Waits until a socket or the waker has an event, or until the timeout, and marks what has an event as ready.
+    /// Returns false if polling failed.
     pub(crate) fn wait<G: StateReader + Drop>(
         &mut self,
         sessions: &SessionService<G>,

@@ -1,4 +1,9 @@
-//! The loop of the thread of the sessions: it hears all who talk to the node, and tells them what they asked for.
+//! Runs the thread of the sessions: takes lines from the standard input and the connections, gives their orders to the
+//! station, and delivers answers and events.
+//!
+//! `threads` builds the [`ConsoleLoop`] and starts the thread. `poll_once` is one round, and its order counts: answers
+//! are delivered before lines are handled, and connections that have ended are gone before new ones are accepted. What
+//! the sessions make of a line is in `smi_session`. docs/FORMATS.md, "A node's lines", says what people see.
 
 use crate::connection_set::ConnectionSet;
 use crate::console_waker::ConsoleWaker;
@@ -21,72 +26,83 @@ use std::sync::{Arc, Wait};
 use std::thread::sleep;
 use std::time::{Clock, Duration, Instant};
 
-/// How many lines of the standard input, and how much news, are taken in one round. The texts of all that news are
-/// fewer bytes than a session may have unsent.
-const LINES: usize = 64;
+/// The most lines of the standard input that are handled in one round, so that the connections get their turn.
+const MOST_LINES: usize = 64;
 
-const NEWS: usize = 512;
+/// The most messages of the station, and of the journal, that are taken in one round. A session is told of all these
+/// events before anything of them is written: 512 states, of at most 80 bytes each, are less than the 64 KiB that it
+/// may have unsent.
+const MOST_NEWS: usize = 512;
 
-/// What the thread has beside its outputs.
+/// What the thread of the sessions has, beside the writer of its faults.
 #[derive(Drop)]
 pub(crate) struct ConsoleLoop<G: StateReader + Drop> {
+    /// The orders, the subscriptions and the seats of all sessions.
     pub(crate) sessions: Box<SessionService<G>>,
+    /// The standard input and the connections, and their sessions.
     pub(crate) connections: Box<ConnectionSet>,
+    /// The waker of the station's thread, for orders that were given.
     pub(crate) station_waker: StationWaker,
-    /// The waker of this thread.
+    /// The waker of this thread, which is told here whether anybody follows events.
     pub(crate) waker: Arc<ConsoleWaker, Global>,
-    /// Where what the standard input is told goes.
+    /// The channel to the thread that writes the standard output.
     pub(crate) stdout: StdoutSender,
-    /// What is typed at the standard input, and what the station tells.
+    /// The lines of the standard input, from the thread that reads it.
     pub(crate) lines: Receiver<Input>,
+    /// The events and modes of the station, from its thread.
     pub(crate) news: Receiver<StationNews>,
-    /// What becomes of the journal of the node.
+    /// The faults of the node's journal, from the station's thread.
     pub(crate) journal: Receiver<Noted>,
-    /// Whether the standard input is heard no more.
+    /// True if no line of the standard input is handled any more, and nothing more is written for it.
     pub(crate) is_stdin_over: bool,
-    /// What the system drops of the datagrams to the node.
+    /// The count of datagrams to the node that the system dropped.
     pub(crate) drops: SocketDrops,
 }
 
 impl<G: StateReader + Drop> ConsoleLoop<G> {
-    /// What the station has told is noted. Whether there may be more.
-    fn note_news<R: Wait>(&mut self, rt: &R) -> bool {
-        for _ in 0..NEWS {
+    /// Records the events and modes that the station has sent, `MOST_NEWS` at most. Returns true if there may be more.
+    fn record_news<R: Wait>(&mut self, rt: &R) -> bool {
+        for _ in 0..MOST_NEWS {
             match self.news.try_recv(rt) {
                 Ok(StationNews::Event(event)) => {
+                    // Without memory sessions that follow would miss the event.
                     if self.sessions.record(event).is_err() {
                         self.connections.lose_followers();
                     }
                 }
-                // Without memory the mode that was known of the child stays.
+                // Without memory the mode of the child stays what it was before.
                 Ok(StationNews::Mode(state)) => {
                     let _ = self.sessions.set_mode(state);
                 }
+                // None waits, or the station's thread is gone.
                 Err(_) => return false,
             }
         }
         true
     }
 
-    /// Each answer that is there goes to its session.
-    fn tell_answers(&mut self, tree: &Tree) {
-        for place in 0..self.sessions.seat_count() {
+    /// Delivers each answer that is in a seat to its session.
+    fn deliver_answers(&mut self, tree: &Tree) {
+        for seat in 0..self.sessions.seat_count() {
+            // A seat has no more orders than these, so the inner loop takes all its answers.
             for _ in 0..MOST_PENDING {
-                match self.sessions.next_answer(place) {
+                match self.sessions.next_answer(seat) {
                     Some(answered) => self
                         .connections
-                        .tell_answer(&mut self.sessions, tree, &answered),
+                        .deliver_answer(&mut self.sessions, tree, &answered),
                     None => break,
                 }
             }
         }
     }
 
-    /// Tells when the journal fails, and when it goes on.
-    fn tell_journal<R: Wait, F: Write>(&self, rt: &R, faults: &mut F) {
-        for _ in 0..NEWS {
+    /// Writes when the journal has failed, and when it goes on.
+    fn report_journal<R: Wait, F: Write>(&self, rt: &R, faults: &mut F) {
+        // The bound is there so that the loop ends; the channel holds fewer.
+        for _ in 0..MOST_NEWS {
             match self.journal.try_recv(rt) {
                 Ok(Noted::Resumed(lost)) => {
+                    // If standard error can't be written, nobody is left who could be told.
                     let _ = writeln!(faults, "journal goes on, {lost} steps are lost");
                 }
                 Ok(Noted::Failed) => {
@@ -98,20 +114,22 @@ impl<G: StateReader + Drop> ConsoleLoop<G> {
         }
     }
 
-    /// Notes whether anybody follows. Returns true if news may be there for which this thread was not woken.
-    fn note_followers(&self) -> bool {
+    /// Tells the station's thread whether any session follows events. Returns true if events may be there for which
+    /// this thread was not woken.
+    fn set_followers(&self) -> bool {
         self.waker.set_followers(self.connections.has_followers())
     }
 
-    /// Notes what the system has dropped, if it is time to look.
-    fn note_drops(&mut self, now: Option<Instant>) {
+    /// Reads how many datagrams the system has dropped, if the last count is old, for the answer to `counts`.
+    fn update_drops(&mut self, now: Option<Instant>) {
         if self.drops.is_due(now) {
             let drops = self.drops.read(now);
             self.sessions.set_drops(drops);
         }
     }
 
-    /// The next line of the standard input, where one is there and may be taken.
+    /// Returns the next line of the standard input, or None if none has come, or its session takes none now. Remembers
+    /// how the standard input ended.
     fn next_line<R: Wait>(&mut self, rt: &R) -> Option<Vec<u8>> {
         if self.connections.ending.is_some() || !self.connections.stdin.has_room() {
             return None;
@@ -126,8 +144,9 @@ impl<G: StateReader + Drop> ConsoleLoop<G> {
         }
     }
 
-    /// How the standard input has ended, once all that it gave is answered, and the answers are written.
-    fn ended(&self) -> Option<InputEnd> {
+    /// Returns how the standard input has ended. None if it has not, if a line of it is not answered, or if an answer
+    /// is not written.
+    fn stdin_ending(&self) -> Option<InputEnd> {
         let stdin = &self.connections.stdin;
         let is_told = stdin.output().is_empty() && self.stdout.is_written();
         if is_told && stdin.is_idle() && !self.sessions.has_pending(stdin.number()) {
@@ -138,8 +157,8 @@ impl<G: StateReader + Drop> ConsoleLoop<G> {
     }
 }
 
-/// Tells how the standard input ended, where that is a fault.
-fn tell_ending<F: Write>(ending: Result<InputEnd, Unwritten>, faults: &mut F) {
+/// Writes how the standard input or the standard output ended, if that is a fault.
+fn report_ending<F: Write>(ending: Result<InputEnd, Unwritten>, faults: &mut F) {
     match ending {
         Ok(InputEnd::End) => {}
         Ok(InputEnd::ReadFault) => {
@@ -154,21 +173,25 @@ fn tell_ending<F: Write>(ending: Result<InputEnd, Unwritten>, faults: &mut F) {
     }
 }
 
-/// Hands on what the session of the standard input is to be told, and tells its faults.
-fn print<G: StateReader + Drop, R: Wait, F: Write>(
+/// Writes the faults of the session of the standard input, and sends its output to the thread that writes it.
+fn send_output<G: StateReader + Drop, R: Wait, F: Write>(
     rt: &R,
     console_loop: &mut ConsoleLoop<G>,
     faults: &mut F,
 ) -> Result<(), Unwritten> {
     let stdin = console_loop.connections.stdin();
     if !stdin.errors().is_empty() {
+        // If standard error can't be written, nobody is left who could be told.
         let _ = write_whole(faults, stdin.errors());
         stdin.clear_errors();
     }
     console_loop.stdout.send(rt, stdin)
 }
 
-/// The standard input is heard, line by line, and told. Whether it has more.
+/// Serves the standard input for one round: delivers events to its session, handles up to `MOST_LINES` lines, and sends
+/// its output. Returns true if it may have more lines.
+///
+/// Fails if memory was refused or the standard output can't be written: then the standard input is over.
 fn serve_stdin<G: StateReader + Drop, R: Wait, F: Write>(
     rt: &R,
     tree: &Tree,
@@ -185,15 +208,17 @@ fn serve_stdin<G: StateReader + Drop, R: Wait, F: Write>(
     console_loop
         .sessions
         .resume(tree, now, &mut console_loop.connections.stdin)?;
-    print(rt, console_loop, faults)?;
-    for _ in 0..LINES {
+    send_output(rt, console_loop, faults)?;
+    for _ in 0..MOST_LINES {
         match console_loop.next_line(rt) {
             Some(line) => {
-                console_loop.connections.tell_stdin(rt, line.as_slice());
+                console_loop
+                    .connections
+                    .send_to_journal(rt, line.as_slice());
                 console_loop
                     .sessions
                     .receive_line(tree, now, &mut console_loop.connections.stdin, line)?;
-                print(rt, console_loop, faults)?;
+                send_output(rt, console_loop, faults)?;
             }
             None => return Ok(false),
         }
@@ -201,7 +226,8 @@ fn serve_stdin<G: StateReader + Drop, R: Wait, F: Write>(
     Ok(true)
 }
 
-/// The standard input is heard and told, and where it ends, that is told too. Whether it has more.
+/// Serves the standard input if it is not over. If it ends, writes how, and reports its wills. Returns true if it may
+/// have more lines.
 fn poll_stdin<G: StateReader + Drop, R: Wait, F: Write>(
     rt: &R,
     tree: &Tree,
@@ -214,22 +240,22 @@ fn poll_stdin<G: StateReader + Drop, R: Wait, F: Write>(
     }
     let ending = match serve_stdin(rt, tree, now, console_loop, faults) {
         Ok(true) => return true,
-        Ok(false) => console_loop.ended().map(Ok),
+        Ok(false) => console_loop.stdin_ending().map(Ok),
         Err(unwritten) => Some(Err(unwritten)),
     };
     if let Some(ending) = ending {
         console_loop.is_stdin_over = true;
-        // Without memory nobody is left who could be told.
+        // Without memory these reports are lost, and the standard input, which is over, can't be told.
         let _ = console_loop
             .sessions
             .execute_wills(now, &console_loop.connections.stdin);
-        tell_ending(ending, faults);
+        report_ending(ending, faults);
     }
     false
 }
 
-/// Hears and tells everybody once, as far as nothing waits. Returns true if the standard input or the station has more,
-/// or may have.
+/// Does one round: takes what the station and the journal have sent, and serves the standard input and each connection,
+/// as far as nothing waits. Returns true if the standard input or the station may have more.
 fn poll_once<G: StateReader + Drop, R: Wait + Clock, F: Write>(
     rt: &R,
     tree: &Tree,
@@ -237,15 +263,15 @@ fn poll_once<G: StateReader + Drop, R: Wait + Clock, F: Write>(
     faults: &mut F,
 ) -> bool {
     let now = Instant::now(rt).ok();
-    console_loop.note_drops(now);
-    console_loop.tell_journal(rt, faults);
-    let has_more_news = console_loop.note_news(rt);
-    console_loop.tell_answers(tree);
+    console_loop.update_drops(now);
+    console_loop.report_journal(rt, faults);
+    let has_more_news = console_loop.record_news(rt);
+    console_loop.deliver_answers(tree);
     let has_more_lines = poll_stdin(rt, tree, now, console_loop, faults);
     console_loop
         .connections
         .serve_all(rt, &mut console_loop.sessions, tree, now);
-    // After that, because connections that have ended have left their places by then.
+    // After that, because connections that have ended are gone by then and make room for new ones.
     console_loop
         .connections
         .accept_all(&console_loop.sessions, now);
@@ -253,11 +279,12 @@ fn poll_once<G: StateReader + Drop, R: Wait + Clock, F: Write>(
     if console_loop.sessions.has_given() {
         console_loop.station_waker.wake();
     }
-    let has_unseen_news = console_loop.note_followers();
+    let has_unseen_news = console_loop.set_followers();
     has_more_lines || has_more_news || has_unseen_news
 }
 
-/// Hears and tells, round after round, until the standard input has ended where nobody else can talk to the node.
+/// Does round after round, and waits between them until something happens. Returns once the standard input is over, if
+/// the node has no listener: then nobody can talk to it any more.
 pub(crate) fn run_console_loop<G: StateReader + Drop, R: Wait + Clock, F: Write>(
     rt: &R,
     tree: &Tree,
@@ -273,6 +300,7 @@ pub(crate) fn run_console_loop<G: StateReader + Drop, R: Wait + Clock, F: Write>
             .connections
             .wait(&console_loop.sessions, has_more)
         {
+            // The poll failed and did not wait: the pause keeps the loop from taking all of a processor.
             sleep(rt, Duration::from_millis(1));
         }
     }

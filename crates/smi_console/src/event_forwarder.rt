@@ -1,5 +1,9 @@
-//! Forwards the states, the modes and the actions of a node's steps to the thread of its sessions, and wakes it for
-//! these and for answers.
+//! Forwards the states, the modes and the actions of a node's steps to the thread of its sessions, and wakes that
+//! thread for these and for answers.
+//!
+//! `node_observer` calls it on the station's thread after each step, and at the end of each turn. It never waits: one
+//! slow reader must not hold up the station. docs/FORMATS.md, "Lines with a tag" (`follow`, `actions`, `modes`), says
+//! what may be left out if too many events wait.
 
 use crate::event_queue::{EventQueue, StationNews};
 use smi_grant::{Holder, Shown};
@@ -15,28 +19,31 @@ use std::fs::Files;
 use std::sync::{Arc, Wait};
 use std::time::Clock;
 
-/// Forwards the states that the objects of its station pass through, those of other stations' objects that it was told,
-/// the modes of children, and the actions that it does. It wakes the thread of the sessions at the end of a turn that
-/// brought an answer, or news that somebody follows.
+/// The sender of a station's events: the states that its objects pass through, those of other stations' objects that it
+/// was told, the modes of children, and the actions that it does. It wakes the thread of the sessions at the end of a
+/// turn that brought an answer, or an event that somebody follows.
 ///
-/// A state for which there is no room is told at a later step, as the newest of its object by then. So is the mode of a
-/// child.
+/// A state for which the queue has no room is sent at a later step, as the newest of its object by then. So is the mode
+/// of a child.
 #[derive(Drop)]
 pub(crate) struct EventForwarder<H: Files + Drop> {
     /// The tree of the station.
     tree: Arc<Tree, Global>,
     /// The queue to the thread of the sessions.
     queue: EventQueue<H>,
-    /// The states that are not told yet, by object, and whether there are any.
+    /// The newest state of each object that is not sent yet, by the object's number less one. None if there is none.
     coalesced: Vec<Option<Shown>>,
+    /// True if any state is not sent yet.
     has_coalesced: bool,
-    /// The children of the domains of the station, their modes as they were told last, and whether one is to be told.
+    /// The children of the domains of the station.
     children: Vec<u16>,
+    /// The mode that was sent last of each of these children. None if none was.
     modes: Vec<Option<ChildMode>>,
+    /// True if the queue had no room for a mode.
     has_modes: bool,
 }
 
-/// Returns how a domain of a station has its child: None if it is no child of one.
+/// Returns the mode in which a domain of this station has this child. None if its parent is no domain of this station.
 fn mode_of<T: StationState>(tree: &Tree, station: &T, child: u16) -> Option<ChildMode> {
     let mode = station.mode(child)?;
     let parent = tree.parent(child)?;
@@ -63,10 +70,10 @@ fn has_answer(event: &Event<'_>, made: &Result<Heard, StepFault>, out: &Out) -> 
     may_end || !out.answers().is_empty()
 }
 
-/// Returns true if a mode is the one that was told. It compares by hand, because modes of children have no `==`.
-fn is_told(told: Option<ChildMode>, mode: ChildMode) -> bool {
+/// Returns true if a mode is the one that was sent last. It compares by hand, because modes of children have no `==`.
+fn is_sent(sent: Option<ChildMode>, mode: ChildMode) -> bool {
     matches!(
-        (told, mode),
+        (sent, mode),
         (Some(ChildMode::Out), ChildMode::Out)
             | (Some(ChildMode::Included), ChildMode::Included)
             | (Some(ChildMode::Manual), ChildMode::Manual)
@@ -75,7 +82,7 @@ fn is_told(told: Option<ChildMode>, mode: ChildMode) -> bool {
 }
 
 impl<H: Files + Wait + Clock + Drop> EventForwarder<H> {
-    /// Makes a forwarder that has told nothing but the states of what a station keeps.
+    /// Makes a forwarder over this queue, and sends the states and the modes that the station has now.
     ///
     /// Fails if memory was refused.
     pub(crate) fn new<T: StationState>(
@@ -110,29 +117,29 @@ impl<H: Files + Wait + Clock + Drop> EventForwarder<H> {
         Ok(forwarder)
     }
 
-    /// Tells a state, or coalesces it if there is no room for it, or if others are to be told before it.
+    /// Sends a state, or keeps it for later if the queue has no room or if other states have to be sent before it.
     fn send_or_coalesce(&mut self, shown: Shown) {
         if self.has_coalesced
             || !self
                 .queue
-                .tell(StationNews::Event(StationEvent::StateChanged(shown)))
+                .push(StationNews::Event(StationEvent::StateChanged(shown)))
         {
             self.coalesce(shown);
         }
     }
 
-    /// Keeps a state to be told later, in place of an older one of its object.
+    /// Keeps a state to be sent later, in place of an older one of its object.
     fn coalesce(&mut self, shown: Shown) {
-        let Some(place) = usize::from(shown.object).checked_sub(1) else {
+        let Some(index) = usize::from(shown.object).checked_sub(1) else {
             return;
         };
-        if let Some(coalesced) = self.coalesced.get_mut(place) {
+        if let Some(coalesced) = self.coalesced.get_mut(index) {
             *coalesced = Some(shown);
             self.has_coalesced = true;
         }
     }
 
-    /// Tells the states that are not told yet, as far as there is room.
+    /// Sends the states that were kept for later, as far as the queue has room.
     fn send_coalesced(&mut self) {
         if !self.has_coalesced {
             return;
@@ -142,7 +149,7 @@ impl<H: Files + Wait + Clock + Drop> EventForwarder<H> {
             if let Some(shown) = *coalesced {
                 if self
                     .queue
-                    .tell(StationNews::Event(StationEvent::StateChanged(shown)))
+                    .push(StationNews::Event(StationEvent::StateChanged(shown)))
                 {
                     *coalesced = None;
                 } else {
@@ -152,10 +159,10 @@ impl<H: Files + Wait + Clock + Drop> EventForwarder<H> {
         }
     }
 
-    /// Tells the modes of children that are not as they were told last, as far as there is room.
+    /// Sends the modes of children that differ from those that were sent last, as far as the queue has room.
     fn send_modes<T: StationState>(&mut self, station: &T) {
         self.has_modes = false;
-        for (child, told) in self.children.iter().zip(self.modes.iter_mut()) {
+        for (child, sent) in self.children.iter().zip(self.modes.iter_mut()) {
             let Some(mode) = mode_of(&self.tree, station, *child) else {
                 continue;
             };
@@ -163,19 +170,19 @@ impl<H: Files + Wait + Clock + Drop> EventForwarder<H> {
                 child: *child,
                 mode,
             };
-            if is_told(*told, mode) {
+            if is_sent(*sent, mode) {
                 continue;
             }
-            if self.queue.tell(StationNews::Mode(state)) {
-                *told = Some(mode);
+            if self.queue.push(StationNews::Mode(state)) {
+                *sent = Some(mode);
             } else {
                 self.has_modes = true;
             }
         }
     }
 
-    /// Tells the action that a step did, at each of its devices.
-    fn tell_done<S: Stable>(
+    /// Sends the action that a step did, if any, once for each of its devices.
+    fn send_action<S: Stable>(
         &mut self,
         station: &Station<'_, S>,
         event: &Event<'_>,
@@ -188,7 +195,7 @@ impl<H: Files + Wait + Clock + Drop> EventForwarder<H> {
         for device in done.devices {
             let object = self.tree.domain_count().saturating_add(*device);
             if let Some(shown) = station.current(object) {
-                self.queue.tell_action(ActionDone {
+                self.queue.push_action(ActionDone {
                     action: done.action,
                     shown,
                     domain: done.domain,
@@ -199,12 +206,12 @@ impl<H: Files + Wait + Clock + Drop> EventForwarder<H> {
         }
     }
 
-    /// Wakes the thread of the sessions at the end of this turn.
+    /// Has the thread of the sessions woken at the end of this turn, whatever the turn brings.
     pub(crate) fn wake(&mut self) {
         self.queue.wake();
     }
 
-    /// Forwards what came of a step.
+    /// Forwards what came of a step: its states, modes and action, after those that were kept for later.
     pub(crate) fn forward<S: Stable>(
         &mut self,
         station: &Station<'_, S>,
@@ -215,7 +222,7 @@ impl<H: Files + Wait + Clock + Drop> EventForwarder<H> {
         if has_answer(event, made, out) {
             self.queue.wake();
         }
-        self.queue.go_on();
+        self.queue.resume();
         self.send_coalesced();
         if let Some(shown) = out.shown() {
             self.send_or_coalesce(shown);
@@ -227,10 +234,10 @@ impl<H: Files + Wait + Clock + Drop> EventForwarder<H> {
         if self.has_modes || matches!(made, Ok(Heard::Done)) {
             self.send_modes(station);
         }
-        self.tell_done(station, event, made);
+        self.send_action(station, event, made);
     }
 
-    /// Ends a turn: wakes that thread, if it is to be woken.
+    /// Ends a turn: wakes the thread of the sessions, if a step of the turn asked for that.
     pub(crate) fn end_turn(&mut self) {
         self.queue.end_turn();
     }

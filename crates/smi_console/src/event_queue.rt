@@ -1,4 +1,7 @@
-//! The queue of news from the station's thread to that of the sessions.
+//! Queues what the station's thread has to tell the thread of the sessions, without ever waiting for it.
+//!
+//! `event_forwarder` pushes into the queue; `console_loop` receives from its channel. Of states and modes the forwarder
+//! keeps what finds no room; of actions the queue counts what it drops (docs/FORMATS.md, "Lines with a tag", `missed`).
 
 use crate::console_waker::ConsoleWaker;
 use crossbeam_channel::Sender;
@@ -7,47 +10,50 @@ use std::alloc::{AllocError, Global};
 use std::collections::VecDeque;
 use std::sync::{Arc, Wait};
 
-/// How much news may wait here, beside what is in the channel.
+/// The most messages that wait here, beside those in the channel. With the 4,096 of the channel (`MOST_NEWS` of
+/// `threads`) these are the 8,192 events of docs/FORMATS.md, "Lines with a tag".
 const MOST_WAITING: usize = 4_096;
 
-/// After how much news the thread of the sessions is woken though nobody follows: it takes as much in one round, so
-/// whoever asks is answered by all of it.
+/// After how many messages the thread of the sessions is woken though nobody follows. It takes more than that in one
+/// round (`MOST_NEWS` of `console_loop`), so the first line after a silence is answered by all of them.
 const MOST_UNSEEN: usize = 256;
 
-/// What the thread of the sessions is told of the station.
+/// A message of the station to the thread of the sessions.
 #[derive(Clone, Copy)]
 pub(crate) enum StationNews {
-    /// What sessions are told of as it happens.
+    /// An event, which sessions are told as it happens.
     Event(StationEvent),
-    /// How a domain has a child, for an operator who asks.
+    /// The mode of a child, which sessions are told if they ask.
     Mode(ChildState),
 }
 
-/// The channel of news, and what waits for it.
+/// The fields of an [`EventQueue`].
 #[derive(Drop)]
 struct EventQueueParts<H: Drop> {
     rt: H,
     waker: Arc<ConsoleWaker, Global>,
+    /// The bounded channel to the thread of the sessions.
     channel: Sender<StationNews>,
+    /// The messages for which the channel has no room yet, the oldest first.
     waiting: VecDeque<StationNews>,
-    /// How many actions were dropped, because the queue was full.
+    /// How many actions were dropped, because the queue was full, since the last `Lagged` was queued.
     dropped: u32,
-    /// How much news the channel was given since the thread of the sessions was woken last.
+    /// How many messages the channel was given since the thread of the sessions was woken last.
     unseen: usize,
-    /// True if the thread of the sessions is to be woken once the turn is over.
+    /// True if the thread of the sessions is to be woken at the end of the turn.
     is_due: bool,
 }
 
-/// Hands on news in their order, and never blocks. What the channel has no room for waits here, up to a bound. Actions
-/// beyond it are counted, and their count is told before any later action.
+/// A queue that sends messages in their order, and never blocks. What the channel has no room for waits here, up to a
+/// bound. Actions beyond it are dropped and counted, and their count is sent before any later action.
 #[derive(Drop)]
 pub(crate) struct EventQueue<H: Drop> {
-    // In a box, because each place that drops it is expensive to prove.
+    // In a box, because each function that drops the parts themselves is expensive to prove.
     parts: Box<EventQueueParts<H>>,
 }
 
 impl<H: Wait + Drop> EventQueue<H> {
-    /// Makes a queue from which nothing was handed on.
+    /// Makes an empty queue over this channel. Fails if memory was refused.
     pub(crate) fn new(
         alloc: Global,
         rt: H,
@@ -67,13 +73,13 @@ impl<H: Wait + Drop> EventQueue<H> {
         Ok(EventQueue { parts })
     }
 
-    /// Lets the thread of the sessions be woken once the turn is over.
+    /// Has the thread of the sessions woken at the end of the turn.
     pub(crate) fn wake(&mut self) {
         self.parts.is_due = true;
     }
 
-    /// Wakes the thread of the sessions, if it is to be woken. Only the end of a turn does so: the states that the turn
-    /// has published and the orders that it has answered are there to be read by then.
+    /// Wakes the thread of the sessions, if it is to be woken. Only the end of a turn does so, because by then the
+    /// states that the turn has published and the orders that it has answered can be read.
     pub(crate) fn end_turn(&mut self) {
         if self.parts.is_due {
             self.parts.is_due = false;
@@ -82,9 +88,10 @@ impl<H: Wait + Drop> EventQueue<H> {
         }
     }
 
-    /// Hands on what waits, as far as the channel has room.
-    fn hand_on(&mut self) {
+    /// Sends the messages that wait, as far as the channel has room.
+    fn send_waiting(&mut self) {
         let parts = &mut *self.parts;
+        // No more messages wait, so the loop sends all of them if there is room.
         for _ in 0..MOST_WAITING {
             let Some(news) = parts.waiting.front().copied() else {
                 return;
@@ -93,6 +100,7 @@ impl<H: Wait + Drop> EventQueue<H> {
                 // It is full, or nobody receives any more.
                 return;
             }
+            // The message itself was copied above.
             let _ = parts.waiting.pop_front();
             parts.unseen = parts.unseen.saturating_add(1);
             if parts.unseen >= MOST_UNSEEN || parts.waker.has_followers() {
@@ -101,29 +109,30 @@ impl<H: Wait + Drop> EventQueue<H> {
         }
     }
 
-    /// Tells news. Returns false if there is no room: then it is the caller's to tell it later.
-    pub(crate) fn tell(&mut self, news: StationNews) -> bool {
+    /// Adds a message to the queue. Returns false if there is no room: then the caller has to push it later.
+    pub(crate) fn push(&mut self, news: StationNews) -> bool {
         let waiting = &mut self.parts.waiting;
         if waiting.len() >= MOST_WAITING || waiting.push_back(news).is_err() {
             return false;
         }
-        self.hand_on();
+        self.send_waiting();
         true
     }
 
-    /// Hands on what waits, and how many actions there was no room for.
-    pub(crate) fn go_on(&mut self) {
-        self.hand_on();
+    /// Sends the messages that wait, and queues how many actions were dropped, if any.
+    pub(crate) fn resume(&mut self) {
+        self.send_waiting();
         let dropped = self.parts.dropped;
-        if dropped > 0 && self.tell(StationNews::Event(StationEvent::Lagged(dropped))) {
+        if dropped > 0 && self.push(StationNews::Event(StationEvent::Lagged(dropped))) {
             self.parts.dropped = 0;
         }
     }
 
-    /// Tells of an action, or counts it.
-    pub(crate) fn tell_action(&mut self, done: ActionDone) {
+    /// Adds an action to the queue, or drops and counts it if there is no room or if a count of earlier ones is not
+    /// queued yet.
+    pub(crate) fn push_action(&mut self, done: ActionDone) {
         if self.parts.dropped > 0
-            || !self.tell(StationNews::Event(StationEvent::ActionDone(done)))
+            || !self.push(StationNews::Event(StationEvent::ActionDone(done)))
         {
             self.parts.dropped = self.parts.dropped.saturating_add(1);
         }

@@ -1,4 +1,7 @@
-//! The exit status and the line of a node that has ended.
+//! Turns the end of a node into an exit status and the line of its fault.
+//!
+//! `node` calls [`report_exit`] once the service is over. The lines are in `faults`. specs/Faults says which status
+//! each end has, and docs/NUMBERS.md ("Statuses of the program") what the status means to the one who started the node.
 
 ghost use Rattle.std.specs.Prelude.{◌≡◌};
 ghost use Rattle.smi_console.specs.Faults.{status_at, status_by, status_in};
@@ -12,9 +15,13 @@ use std::io::{self, ErrorKind, Write};
 /// Why a node that has opened its station does not serve.
 #[derive(Clone, Copy)]
 pub(crate) enum StartError {
+    /// Out of memory, or no thread could be made.
     Memory,
+    /// The station's UDP socket could not be opened.
     Link,
+    /// A listener for consoles could not be opened.
     Console,
+    /// The first file of the journal could not be made.
     Journal,
 }
 
@@ -24,7 +31,7 @@ impl From<AllocError> for StartError {
     }
 }
 
-// Any other error counts as one of the link: what has to do with a console or the journal is mapped where it happens.
+// Any other error counts as one of the link, because `setup` maps the errors of consoles and of the journal itself.
 impl From<io::Error> for StartError {
     fn from(error: io::Error) -> StartError {
         if error.kind() == ErrorKind::OutOfMemory {
@@ -35,7 +42,7 @@ impl From<io::Error> for StartError {
     }
 }
 
-/// Tells how a service ended: well after its turns, and else by its fault.
+/// Writes the line of the fault by which a service ended, if it did not end after its turns. Returns the exit status.
 fn report_served<F: Write>(served: Result<(), ServeFault>, faults: &mut F) -> Status
     ensures { result ≡ status_by served }
 {
@@ -47,7 +54,7 @@ fn report_served<F: Write>(served: Result<(), ServeFault>, faults: &mut F) -> St
     }
 }
 
-/// Tells why a node does not serve.
+/// Writes the line of the error that kept a node from serving. Returns the exit status.
 fn report_start_error<F: Write>(error: StartError, faults: &mut F) -> Status
     ensures { result ≡ status_at error }
 {
@@ -59,7 +66,7 @@ fn report_start_error<F: Write>(error: StartError, faults: &mut F) -> Status
     }
 }
 
-/// Tells how a node with an open station ended.
+/// Writes how a node with an open station ended, if that is a fault. Returns the exit status.
 pub(crate) fn report_exit<F: Write>(
     outcome: Result<Result<(), ServeFault>, StartError>,
     faults: &mut F,

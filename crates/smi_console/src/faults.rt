@@ -1,4 +1,7 @@
-//! The lines of faults, which a node or a screen prints on standard error, and their statuses (docs/NUMBERS.md).
+//! Writes the lines of faults that a node or a screen prints on standard error, and returns their exit statuses.
+//!
+//! `node`, `exit` and `console_loop` call it, and `smi_program` for a screen. The texts are in docs/NUMBERS.md, "Lines
+//! on standard error": scripts compare them, and `cause_search` of `smi_program` finds what was in the way by them.
 
 ghost use Rattle.std.specs.Prelude.{◌≡◌};
 ghost use Rattle.smi_commands.specs.declared.status.Status.TheVariants as status;
@@ -8,7 +11,8 @@ use smi_commands::status::{Status, no_memory, store_fault, wrong_line};
 use smi_protocol::OpenFault;
 use std::io::Write;
 
-/// Tells why a station was not opened on its store, or its rows not brought into their newest schema.
+/// Writes why a station was not opened on its store, or why its rows were not brought into their newest schema. Returns
+/// the exit status.
 ///
 /// No clause names `faults`: what is written there is words, which tests see.
 pub fn opening_fault<F: Write>(fault: OpenFault, faults: &mut F) -> Status
@@ -17,6 +21,7 @@ pub fn opening_fault<F: Write>(fault: OpenFault, faults: &mut F) -> Status
     match fault {
         OpenFault::NoSuchStation => wrong_line(faults),
         OpenFault::Row(key, code) => {
+            // If standard error can't be written, the status alone says so.
             let _ = writeln!(
                 faults,
                 "row {} {} {} fault {code}",
@@ -30,7 +35,7 @@ pub fn opening_fault<F: Write>(fault: OpenFault, faults: &mut F) -> Status
     }
 }
 
-/// Tells that the node has no socket, or that its socket failed too often.
+/// Writes that the station's socket can't be opened, or that it failed too often. Returns the exit status.
 ///
 /// No clause names `faults`: what is written there is words, which tests see.
 pub fn link_fault<F: Write>(faults: &mut F) -> Status
@@ -39,21 +44,21 @@ pub fn link_fault<F: Write>(faults: &mut F) -> Status
     print_fault("link fault", faults)
 }
 
-/// Tells that the node can't listen at the place of `--console`.
+/// Writes that the node can't listen at the address or path of `--console`. Returns the exit status.
 pub(crate) fn console_fault<F: Write>(faults: &mut F) -> Status
     ensures { result ≡ status.Fault }
 {
     print_fault("console fault", faults)
 }
 
-/// Tells that the node can't write its journal.
+/// Writes that the node can't write its journal. Returns the exit status, which a running node ignores.
 pub(crate) fn journal_fault<F: Write>(faults: &mut F) -> Status
     ensures { result ≡ status.Fault }
 {
     print_fault("journal fault", faults)
 }
 
-/// Tells that the station has stopped.
+/// Writes that the station has stopped. Returns the exit status.
 ///
 /// No clause names `faults`: what is written there is words, which tests see.
 pub fn stopped<F: Write>(faults: &mut F) -> Status
@@ -62,12 +67,13 @@ pub fn stopped<F: Write>(faults: &mut F) -> Status
     print_fault("stopped", faults)
 }
 
-/// Tells a fault in its line.
+/// Writes a fault as a line of its own. Returns the exit status.
 ///
 /// No clause names `what` and `faults`: a line of words is written, which tests see.
 pub fn print_fault<F: Write>(what: &str, faults: &mut F) -> Status
     ensures { result ≡ status.Fault }
 {
+    // If standard error can't be written, the status alone says so.
     let _ = writeln!(faults, "{what}");
     Status::Fault
 }

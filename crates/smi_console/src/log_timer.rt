@@ -1,23 +1,29 @@
-//! When a node lets its store copy the log into the file.
+//! Decides when an endless node lets its store copy the log into the file of the store.
+//!
+//! `station_loop` asks it between two rounds of turns. The store counts the looks: it copies at the second look after a
+//! save (`LogState` of `smi_disks`), so that no copy holds up saves. docs/DECISIONS.md, "Rows and stores", says why.
 
 use std::time::Instant;
 
-/// How many seconds pass between two looks at the log. It is copied at the second look after a save.
+/// How many seconds pass between two looks at the log. The store copies it at the second look after a save, so at
+/// least this long after the save.
 const LOOK_SECONDS: u64 = 3;
 
-/// Tells when the log is to be looked at.
+/// Measures the time since the log was looked at.
 #[derive(Drop)]
 pub(crate) struct LogTimer {
+    /// The moment of the last look, by the monotonic clock. None before the first call of [`LogTimer::is_due`].
     since: Option<Instant>,
 }
 
 impl LogTimer {
-    /// Begins with the first moment that it is told.
+    /// Makes a timer that starts at the first moment that [`LogTimer::is_due`] is given.
     pub(crate) fn new() -> LogTimer {
         LogTimer { since: None }
     }
 
-    /// Returns true if it is time for a look, and counts from this moment then. A clock that fails tells no moment.
+    /// Returns true if it is time for a look, and then measures from `now` on. Returns false if the clock failed (`now`
+    /// is None), or if this is the first call.
     pub(crate) fn is_due(&mut self, now: Option<Instant>) -> bool {
         match (now, self.since) {
             (Some(now), Some(since)) if now.duration_since(since).as_secs() < LOOK_SECONDS => false,

@@ -1,4 +1,7 @@
-//! A node begins, serves, and ends.
+//! Runs a node: migrates the rows of its store, opens its station, has it served, and reports how it ended.
+//!
+//! `smi_program` calls [`run`] with an open store, and closes the store that it gets back. What a run does to the store
+//! is the contract of [`run`] (specs/Running). The threads, the sockets and the seats are built in `setup`.
 
 ghost use Rattle.std.specs.Prelude.{◌≡◌};
 ghost use Rattle.std.specs.Arc.{arc_value};
@@ -34,20 +37,22 @@ use std::time::Clock;
 /// What a node is run with, beside its store and its console.
 #[derive(Drop)]
 pub struct NodeSetup {
+    /// The tree, which all threads of the node share.
     pub tree: Arc<Tree, Global>,
     /// The number of its station, from 1.
     pub station: u16,
-    /// How long it serves.
+    /// For how many turns it serves, or without end.
     pub turns: Turns,
-    /// From where its datagrams have to come.
+    /// From where its datagrams have to come (`--sources`).
     pub sources: Sources,
-    /// Where it listens for consoles, beside the standard input.
+    /// The addresses and paths at which it listens for consoles (`--console`), beside the standard input.
     pub consoles: Vec<ListenAddress>,
-    /// Where its journal is written, if it has one.
+    /// The folder of its journal, and how it is written. None if it has no journal.
     pub journal: Option<Arc<JournalSetup, Global>>,
 }
 
-/// Serves a station that is open, with a board that is, where all is there that it is served with.
+/// Serves an open station, if all that it is served with could be built. Returns the fault that ended the service, if
+/// any, or the error of the building.
 fn serve_if_started<
     S: LoggedStable,
     L: DatagramLink + Drop,
@@ -74,7 +79,7 @@ fn serve_if_started<
     }
 }
 
-/// Serves a station that is open.
+/// Opens the board of a station, builds all else that the station is served with, and serves it.
 fn serve_with_board<J, S, H, I, O, E>(
     rt: &H,
     blank: NewBoard,
@@ -96,11 +101,12 @@ where
     let (mut board, glances) = open_board::<J, H>(rt, rt.alloc(), blank, 1)?;
     let service = build_service(rt, setup, station, glances, console);
     let served = serve_if_started(rt, setup, station, &mut board, service);
+    // It returns what the board had published, which nobody needs any more.
     let _ = board.close(rt);
     served
 }
 
-/// The station is opened on its store, and served.
+/// Opens the station on its store, serves it, and reports how it ended. Returns the exit status, and the store.
 fn open_and_serve<S, H, I, O, E, F>(
     rt: &H,
     setup: &NodeSetup,
@@ -135,12 +141,12 @@ where
     }
 }
 
-/// Runs a node, and gives its store back.
+/// Runs a node. Returns the exit status, and the store.
 ///
-/// The rows of its station are brought into their newest schema, the station is opened, its seats and its board are
-/// made, and last its socket; then it is served, for so many turns or until a fault, while other threads have the
-/// console. What is amiss is told in one line on `faults`, and the status says how the node ended. Those threads tell
-/// their own faults on those of the console, and these end the console alone.
+/// It brings the rows of the station into their newest schema, opens the station, makes its board and its seats, and
+/// then opens its socket and its listeners. Then it serves the station, for a number of turns or until a fault, while
+/// other threads have the console. It writes a fault as one line on `faults`. The other threads write their own faults
+/// on `console.faults`, and these end the console alone.
 ///
 /// Nothing but the opening and the steps of the station changes the store, and copies of its log, which keep the rows.
 /// That it serves over its own socket and its own seats no clause says, and none what the threads of the console do:

@@ -1,4 +1,7 @@
-//! The station's part of a node, before its consoles begin.
+//! Holds the station's side of a node while the threads of its consoles are not started yet.
+//!
+//! `setup` builds it, starts the threads, and then turns it into the `station_loop` that serves the station. The
+//! console's side is `ConsoleParts` of `threads`.
 
 use crate::station_loop::StationLoop;
 use smi_link::DatagramLink;
@@ -8,22 +11,26 @@ use smi_session::boxed;
 use std::alloc::{AllocError, Global};
 use std::sync::Arc;
 
+/// The fields of a [`NodeIo`].
 #[derive(Drop)]
 struct NodeIoParts<L: Drop> {
+    /// The link to the other stations.
     link: L,
+    /// The station's end of all seats, whose other ends the sessions have.
     desk: Box<Desk>,
+    /// The counters that the station's thread raises, and that sessions read for `counts`.
     stats: Arc<NodeStats, Global>,
 }
 
 /// The link of a station, the desk of its seats, and the statistics that both sides share.
 #[derive(Drop)]
 pub(crate) struct NodeIo<L: Drop> {
-    // In a box, because each place that drops it is expensive to prove.
+    // In a box, because each function that drops the parts themselves is expensive to prove.
     parts: Box<NodeIoParts<L>>,
 }
 
 impl<L: DatagramLink + Drop> NodeIo<L> {
-    /// Makes a side with this link, at this desk, and with these statistics.
+    /// Makes the station's side of this link, this desk and these statistics. Fails if memory was refused.
     pub(crate) fn new(
         alloc: Global,
         link: L,
@@ -35,7 +42,7 @@ impl<L: DatagramLink + Drop> NodeIo<L> {
         Ok(NodeIo { parts })
     }
 
-    /// Makes what a station is served with here: its link, its desk, its statistics, and this observer.
+    /// Turns it into the loop that serves the station, before this observer. Fails if memory was refused.
     pub(crate) fn into_service<V: StepObserver + Drop>(
         self,
         alloc: Global,

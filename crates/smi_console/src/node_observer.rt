@@ -1,4 +1,8 @@
-//! What a node does at each of its steps, beside the step.
+//! Observes each step of a node: notes it in the journal, and then forwards what came of it to the consoles.
+//!
+//! `setup` makes the observer, and `smi_node` calls it on the station's thread: after the row of a step is saved, and
+//! before anything of the step is sent. The order counts: a journal that came after the forwarding could lose an entry
+//! that an operator has seen (docs/DECISIONS.md, "Journals and audits").
 
 ghost use Rattle.std.specs.Prelude.{None, option_map};
 ghost use Rattle.smi_journal.specs.Noted.{handed_in};
@@ -18,12 +22,14 @@ use std::time::Clock;
 /// sessions.
 #[derive(Drop)]
 pub(crate) struct NodeObserver<H: Files + Drop> {
+    /// The journal, if the node has one.
     journal: Option<JournalKeeper<H>>,
+    /// The sender of events to the thread of the sessions.
     forwarder: EventForwarder<H>,
 }
 
 impl<H: Files + Drop> NodeObserver<H> {
-    /// Makes an observer that notes in this journal.
+    /// Makes an observer that notes in this journal, if any, and forwards with this forwarder.
     pub(crate) fn new(
         journal: Option<JournalKeeper<H>>,
         forwarder: EventForwarder<H>,
@@ -43,7 +49,7 @@ impl<H: Files + Wait + Clock + Drop> StepObserver for NodeObserver<H> {
         out: &Out,
     ) {
         if let Some(journal) = &mut self.journal {
-            // The journal has failed or goes on again, and the sessions are to say so.
+            // The journal has failed or goes on again: the thread of the sessions writes that on standard error.
             if journal.note(station, out) {
                 self.forwarder.wake();
             }

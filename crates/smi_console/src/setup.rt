@@ -1,4 +1,9 @@
 //! Builds all that an open station is served with: its seats, its sockets, and the threads of its consoles.
+//!
+//! `node` calls [`build_service`] between the opening of the station and its service. The order in which things are
+//! built is that in which their faults are found: seats, the station's socket, the listeners, the threads, and last the
+//! journal. So a node whose address is taken has started, and its boot is one higher (docs/DECISIONS.md, "Seats, nodes
+//! and consoles").
 
 ghost use Rattle.std.specs.Prelude.{◌≡◌, ◌*◌, ◌++◌, ◌∷◌, [], IfOk, length, min};
 ghost use Rattle.smi_operator.specs.Sides.{IsDeskOf};
@@ -8,14 +13,14 @@ use crate::console_waker::ConsoleWaker;
 use crate::event_forwarder::EventForwarder;
 use crate::event_queue::{EventQueue, StationNews};
 use crate::exit::StartError;
-use crate::journal_keeper::{JournalKeeper, KeeperWays, begin_journal, journal_ways};
+use crate::journal_keeper::{JournalKeeper, KeeperChannels, begin_journal, journal_channels};
 use crate::node::NodeSetup;
 use crate::node_io::NodeIo;
 use crate::node_observer::NodeObserver;
 use crate::peers::{Linking, UdpLinking};
 use crate::station_loop::StationLoop;
 use crate::station_waker::StationWaker;
-use crate::threads::{Console, ConsoleParts, begin_console};
+use crate::threads::{Console, ConsoleParts, start_console};
 use crossbeam_channel::Sender;
 use smi_base::MOST_OPERATORS_OF_A_STATION;
 use smi_journal::StationState;
@@ -32,17 +37,18 @@ use std::sync::{Arc, Wait};
 use std::thread::Threads;
 use std::time::Clock;
 
-/// The seats of a station, and their desk.
+/// The seats of a station, and the desk that the station serves them from.
 #[derive(Drop)]
 struct Seats {
-    /// Those of its operators.
+    /// The seats of its operators, seven for each (`LANES`), by operator.
     own: Vec<Seat>,
-    /// The one for reports, which is the last.
+    /// The seat for reports, which is the last of the desk.
     reports: Seat,
+    /// The station's end of all these seats.
     desk: Box<Desk>,
 }
 
-/// Opens the seats of each operator of a station, one more for reports, and their desk.
+/// Opens the seats of each operator of a station, one more for reports, and their desk. Fails if memory was refused.
 fn build_seats(alloc: Global, operators: &[u16]) -> Result<Seats, AllocError>
     ensures count { IfOk result (λ r. length r.own.items
         ≡ min (length operators.now) MOST_OPERATORS_OF_A_STATION * 7) }
@@ -51,6 +57,7 @@ fn build_seats(alloc: Global, operators: &[u16]) -> Result<Seats, AllocError>
     let count = operators.len().min(MOST_OPERATORS_OF_A_STATION) * LANES + 1;
     let (mut seats, desk) = open_many_seats(alloc, count)?;
     let Some(reports) = seats.pop() else {
+        // There are `count` seats, which is at least one.
         unreachable!();
     };
     let desk = boxed(alloc, desk)?;
@@ -61,7 +68,7 @@ fn build_seats(alloc: Global, operators: &[u16]) -> Result<Seats, AllocError>
     })
 }
 
-/// Opens the sessions of a node, over its seats.
+/// Opens the service of a node's sessions over its seats. Fails if memory was refused.
 fn sessions_over<G: StateReader + Drop>(
     alloc: Global,
     setup: &NodeSetup,
@@ -74,7 +81,7 @@ fn sessions_over<G: StateReader + Drop>(
     SessionService::open(alloc, seats, glance, stats, picture)
 }
 
-/// Builds the seats of a station's operators and one for reports, the sessions over them, and their desk.
+/// Builds the seats of a station, the service of the sessions over them, and their desk. Fails if memory was refused.
 fn build_sessions<G: StateReader + Drop>(
     alloc: Global,
     setup: &NodeSetup,
@@ -91,17 +98,18 @@ fn build_sessions<G: StateReader + Drop>(
     }
 }
 
-/// What a node has before its consoles begin: the station's side, the service of its sessions, and a waker to the
-/// station.
+/// What `build_station` makes: the station's side and what the sessions need of it.
 #[derive(Drop)]
 struct StationParts<L: Drop, G: StateReader + Drop> {
+    /// The station's side, for its thread.
     node_io: NodeIo<L>,
+    /// The service of the sessions, for their thread.
     sessions: Box<SessionService<G>>,
+    /// The waker of the station's thread, for that of the sessions.
     station_waker: StationWaker,
 }
 
-/// Builds the seats of a station's operators and one for reports, the sessions over them, their desk, and last the
-/// station's link.
+/// Builds the seats of a station, the service of the sessions over them, and last the station's link.
 fn build_station<K: Linking, G: StateReader + Drop>(
     alloc: Global,
     setup: &NodeSetup,
@@ -120,7 +128,7 @@ fn build_station<K: Linking, G: StateReader + Drop>(
     })
 }
 
-/// Opens the listeners of a node, and a waker to the thread of its sessions.
+/// Opens the listeners of a node, and makes the waker of the thread of its sessions.
 fn open_connections<H: Files + Net + AllocGlobal>(
     rt: &H,
     setup: &NodeSetup,
@@ -131,21 +139,25 @@ fn open_connections<H: Files + Net + AllocGlobal>(
             Err(_) => Err(StartError::Memory),
         },
         Err(e) if e.kind() == ErrorKind::OutOfMemory => Err(StartError::Memory),
+        // The line of the fault names no cause: `smi_program` looks for it.
         Err(_) => Err(StartError::Console),
     }
 }
 
-/// What a node has before its threads begin: the station's side, the console's side, and its waker.
+/// What a node has before its threads are started.
 #[derive(Drop)]
 struct NodeParts<L: Drop, G: StateReader + Drop> {
+    /// The station's side.
     node_io: NodeIo<L>,
+    /// The console's side.
     parts: ConsoleParts<G>,
+    /// The waker of the thread of the sessions.
     waker: Arc<ConsoleWaker, Global>,
-    /// The channels of the journal to the sessions.
-    journal_ways: KeeperWays,
+    /// The journal's ends of its channels to the sessions.
+    keeper_channels: KeeperChannels,
 }
 
-/// Builds the seats of a station and its link, and then opens the listeners of its node.
+/// Builds the seats of a station and its link, opens the listeners of its node, and makes the channels of its journal.
 fn build_node<K: Linking, G: StateReader + Drop, H: Files + Net + AllocGlobal>(
     rt: &H,
     setup: &NodeSetup,
@@ -156,7 +168,7 @@ fn build_node<K: Linking, G: StateReader + Drop, H: Files + Net + AllocGlobal>(
     let station_parts = build_station(rt.alloc(), setup, operators, glance, linking)?;
     let (connections, waker) = open_connections(rt, setup)?;
     let own_waker = Arc::try_clone(&waker)?;
-    let (journal_ways, journal) = journal_ways(rt.alloc(), setup.journal.is_some())?;
+    let (keeper_channels, journal) = journal_channels(rt.alloc(), setup.journal.is_some())?;
     let StationParts {
         node_io,
         sessions,
@@ -173,11 +185,11 @@ fn build_node<K: Linking, G: StateReader + Drop, H: Files + Net + AllocGlobal>(
         node_io,
         parts,
         waker,
-        journal_ways,
+        keeper_channels,
     })
 }
 
-/// Makes the statistics that both sides share.
+/// Makes the statistics that both sides share. Fails if memory was refused.
 fn new_stats(alloc: Global) -> Result<Arc<NodeStats, Global>, StartError> {
     match Arc::new(alloc, NodeStats::new()) {
         Ok(stats) => Ok(stats),
@@ -185,18 +197,18 @@ fn new_stats(alloc: Global) -> Result<Arc<NodeStats, Global>, StartError> {
     }
 }
 
-/// Makes the queue that hands on news to the thread of the sessions, by this way, and wakes it.
+/// Makes the queue of messages to the thread of the sessions, over this channel. Fails if memory was refused.
 fn queue_of<H: Wait + AllocGlobal + Clone + Drop>(
     rt: &H,
     waker: &Arc<ConsoleWaker, Global>,
     news: Sender<StationNews>,
 ) -> Result<EventQueue<H>, AllocError> {
     let waker = Arc::try_clone(waker)?;
-    let there = rt.clone()?;
-    EventQueue::new(rt.alloc(), there, waker, news)
+    let queue_rt = rt.clone()?;
+    EventQueue::new(rt.alloc(), queue_rt, waker, news)
 }
 
-/// Makes what forwards the events of a station to the thread of the sessions.
+/// Makes the forwarder of a station's events to the thread of the sessions. Fails if memory was refused.
 fn forwarder_of<T: StationState, H: Files + Wait + Clock + AllocGlobal + Clone + Drop>(
     rt: &H,
     setup: &NodeSetup,
@@ -209,7 +221,7 @@ fn forwarder_of<T: StationState, H: Files + Wait + Clock + AllocGlobal + Clone +
     EventForwarder::new(rt.alloc(), tree, station, queue)
 }
 
-/// Begins the journal of a node, if it is to have one.
+/// Begins the journal of a node, or returns None if it is to have none.
 fn journal_of<
     T: StationState,
     H: Files + Wait + Threads + Clock + AllocGlobal + Clone + Drop + Send + 'static,
@@ -217,19 +229,21 @@ fn journal_of<
     rt: &H,
     setup: &NodeSetup,
     station: &T,
-    ways: KeeperWays,
+    channels: KeeperChannels,
 ) -> Result<Option<JournalKeeper<H>>, StartError> {
     let Some(journal) = &setup.journal else {
         return Ok(None);
     };
-    match begin_journal(rt, &setup.tree, journal, station, ways) {
+    match begin_journal(rt, &setup.tree, journal, station, channels) {
         Ok(keeper) => Ok(Some(keeper)),
         Err(e) if e.kind() == ErrorKind::OutOfMemory => Err(StartError::Memory),
+        // The line of the fault names no cause: `smi_program` looks for it.
         Err(_) => Err(StartError::Journal),
     }
 }
 
-/// Makes the station's seats and its link, and begins the threads of its consoles, in this order.
+/// Builds the station's seats, its link and its listeners, starts the threads of its consoles, and begins its journal,
+/// in this order.
 fn start_node<
     K: Linking,
     G: StateReader + Drop + Send + 'static,
@@ -251,26 +265,26 @@ fn start_node<
         node_io,
         parts,
         waker,
-        journal_ways,
+        keeper_channels,
     } = node_parts;
-    let news = begin_console(rt, setup, parts, &waker, console)?;
+    let news = start_console(rt, setup, parts, &waker, console)?;
     let forwarder = forwarder_of(rt, setup, station, &waker, news)?;
-    let journal = journal_of(rt, setup, station, journal_ways)?;
+    let journal = journal_of(rt, setup, station, keeper_channels)?;
     let observer = NodeObserver::new(journal, forwarder);
     Ok(node_io.into_service(rt.alloc(), observer)?)
 }
 
-/// Returns the only one of these glances.
+/// Returns the only one of these glances. The board was opened with one (`serve_with_board` of `node`).
 fn only<G: Drop>(glances: Vec<G>) -> Result<G, StartError> {
     let mut glances = glances;
     glances.pop().ok_or(StartError::Memory)
 }
 
-/// What a station is served with by a node.
+/// The loop that serves the station of a node: over UDP, before the observer that journals and forwards.
 pub(crate) type NodeService<'a, H> = StationLoop<UdpLink<&'a H>, NodeObserver<H>>;
 
-/// Returns what an open station is served with by a node whose sessions have the only one of these glances: its seats,
-/// its link, and the threads of its consoles, in this order.
+/// Builds the loop that serves an open station, and starts the threads of its consoles, whose sessions get the only one
+/// of these glances.
 pub(crate) fn build_service<
     'a,
     G: StateReader + Drop + Send + 'static,

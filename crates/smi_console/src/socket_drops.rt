@@ -1,4 +1,8 @@
-//! How many datagrams to a node the system has dropped.
+//! Reads how many datagrams to a node's socket the system has dropped, because the node took them too slowly.
+//!
+//! `console_loop` reads it once a second, on the thread of the sessions, and sessions print it as `dropped` in the
+//! answer to `counts` (docs/FORMATS.md, "Lines with a tag"). The table is that of Linux; without it the number is left
+//! out.
 
 use crate::node::NodeSetup;
 use crate::peers::addresses;
@@ -6,27 +10,30 @@ use std::alloc::{AllocError, Global};
 use std::net::SocketAddr;
 use std::time::Instant;
 
-/// The file in which Linux lists the UDP sockets.
+/// The file in which Linux lists the UDP sockets, a line each.
 const TABLE: &[u8] = b"/proc/net/udp";
 
-/// How many bytes of it are read at once, and how many times at most.
-const AT_ONCE: usize = 4_096;
+/// How many bytes of the table are read at once.
+const BLOCK_BYTES: usize = 4_096;
 
-const READS: usize = 1_024;
+/// The most reads of the table. The bound is there so that the loop ends: 4 MiB are some 30,000 sockets.
+const MOST_READS: usize = 1_024;
 
-/// How long a number that was read is told before it is read again, in seconds.
-const AGE: u64 = 1;
+/// How many seconds old the number is at least before it is read again (docs/FORMATS.md, `dropped`).
+const LEAST_AGE_SECONDS: u64 = 1;
 
-/// The socket of a node in the system's table, and when that was last read.
+/// The socket of a node as the system's table names it.
 #[derive(Drop)]
 pub(crate) struct SocketDrops {
     alloc: Global,
+    /// Its address and port as the second word of its line in the table, or an empty text if it has none.
     socket: String,
-    since: Option<Instant>,
+    /// When the table was last read. None if it was not read yet.
+    read_at: Option<Instant>,
 }
 
-/// Returns how many datagrams a table says that a socket has lost for want of room: the last word of its line, whose
-/// second word names it.
+/// Returns how many datagrams a socket has lost by this table: the last word of the line whose second word names it.
+/// Returns None if the table has no such line.
 fn drops_in(table: &str, socket: &str) -> Option<u64> {
     for line in table.lines() {
         if line.split_whitespace().nth(1) == Some(socket) {
@@ -36,10 +43,12 @@ fn drops_in(table: &str, socket: &str) -> Option<u64> {
     None
 }
 
-/// Adds what an open file has to a text, as far as it can be read.
-fn add_all(text: &mut Vec<u8>, file: i32) -> Result<(), AllocError> {
-    let mut block = [0u8; AT_ONCE];
-    for _ in 0..READS {
+/// Adds the bytes of an open file to a text, up to its end or the first read that fails.
+///
+/// Fails if memory was refused.
+fn read_all(text: &mut Vec<u8>, file: i32) -> Result<(), AllocError> {
+    let mut block = [0u8; BLOCK_BYTES];
+    for _ in 0..MOST_READS {
         match usize::try_from(libc::read(file, &mut block)) {
             Ok(count) if count > 0 => text.extend_from_slice(block.get(..count).unwrap_or(&[]))?,
             _ => return Ok(()),
@@ -48,54 +57,59 @@ fn add_all(text: &mut Vec<u8>, file: i32) -> Result<(), AllocError> {
     Ok(())
 }
 
-/// Returns the system's table, or none if it can't be read. It is read by its descriptor, because the handle to files
-/// does not go to a thread.
-fn table(alloc: Global) -> Option<String> {
+/// Returns the system's table, or None if it can't be read or memory was refused.
+///
+/// It uses a descriptor, because this thread has no `Files`, the runtime's handle of files.
+fn read_table(alloc: Global) -> Option<String> {
     let file = os::open_read(TABLE);
     if file < 0 {
         return None;
     }
     let mut text = Vec::new(alloc);
-    let added = add_all(&mut text, file);
+    let added = read_all(&mut text, file);
     libc::close(file);
     added.ok()?;
     String::from_utf8_lossy(alloc, text.as_slice()).ok()
 }
 
 impl SocketDrops {
-    /// Returns the socket of a node. Its name in the table is its address and its port, in hexadecimal, the address
-    /// as the number that its bytes are in the memory of an x86 processor.
+    /// Makes the reader of a node's socket. In the table its name is the address and the port, in hexadecimal, the
+    /// address as a number whose first byte is the lowest, as an x86 processor reads it.
+    ///
+    /// Fails if memory was refused.
     pub(crate) fn of(alloc: Global, setup: &NodeSetup) -> Result<SocketDrops, AllocError> {
         let peers = addresses(alloc, &setup.tree)?;
-        let place = usize::from(setup.station).saturating_sub(1);
-        let socket = match peers.get(place) {
+        let index = usize::from(setup.station).saturating_sub(1);
+        let socket = match peers.get(index) {
             Some(SocketAddr::V4(own)) => {
                 let host = u32::from_le_bytes(own.ip().octets());
                 format!(in alloc; "{:08X}:{:04X}", host, own.port())?
             }
-            // (no line of the table has an empty name)
+            // No line of the table has an empty name, so the number is left out.
             _ => String::new(alloc),
         };
         Ok(SocketDrops {
             alloc,
             socket,
-            since: None,
+            read_at: None,
         })
     }
 
-    /// Returns true if it is time to read the table again. The system tells of no change, so it is read once a second
-    /// at most, and only while there is something to be done.
+    /// Returns true if the last number is old enough for another read. The system tells of no change, so the caller
+    /// asks once a round, and a node at rest reads nothing.
     pub(crate) fn is_due(&self, now: Option<Instant>) -> bool {
-        match (now, self.since) {
-            (Some(now), Some(since)) => now.duration_since(since).as_secs() >= AGE,
+        match (now, self.read_at) {
+            (Some(now), Some(read_at)) => now.duration_since(read_at).as_secs()
+                >= LEAST_AGE_SECONDS,
             (Some(_), None) => true,
             (None, _) => false,
         }
     }
 
-    /// Reads how many datagrams the system has dropped since the node began. None if it does not tell.
+    /// Returns how many datagrams the system has dropped since the node's socket was opened. None if the table does not
+    /// tell.
     pub(crate) fn read(&mut self, now: Option<Instant>) -> Option<u64> {
-        self.since = now;
-        drops_in(table(self.alloc)?.as_str(), self.socket.as_str())
+        self.read_at = now;
+        drops_in(read_table(self.alloc)?.as_str(), self.socket.as_str())
     }
 }

@@ -1,4 +1,8 @@
-//! What a station is served with, and how long.
+//! Serves the station of a node for a number of turns, or until a fault ends it.
+//!
+//! `node` calls [`StationLoop::serve`] on the station's thread. `Node::serve` of `smi_node` makes the turns, each of
+//! which takes one datagram and one order of each seat at most. An endless node is served in rounds of `TURNS_AT_ONCE`,
+//! and between two rounds the log of its store may be copied. specs/Serving says so, and what that leaves of the store.
 
 ghost use Rattle.std.specs.Prelude.{◌≡◌, Result};
 ghost use Rattle.smi_rows.specs.declared.stable.StoreFault.{StoreFault};
@@ -22,27 +26,28 @@ use std::time::{Clock, Instant};
 /// How long a node serves.
 #[derive(Clone, Copy)]
 pub enum Turns {
-    /// So many turns.
+    /// This many turns.
     Count(u32),
-    /// Until it is ended, or a fault ends it.
+    /// Until the process is ended, or a fault ends it.
     Endless,
 }
 
-/// How many turns an endless node serves at once, before it begins again with all that it has. Nothing comes to a node
-/// at rest, whose turns then take a second.
+/// How many turns an endless node serves in one round, after which it looks at its log. A turn in which nothing comes
+/// takes ten milliseconds, so a round takes a second at rest. Faults of the link are counted within a round, so 100 to
+/// 199 in a row end the node (docs/DECISIONS.md, "Rows and stores"). specs/Serving names it.
 pub(crate) const TURNS_AT_ONCE: u32 = 100;
 
-/// Lets the store of a station copy its log into its file. A store that is shut by that saves nothing more, so that the
-/// station stops at its next save.
+/// Lets the store of a station copy its log into its file.
 fn copy_log<S: LoggedStable>(alloc: Global, station: &mut Station<'_, S>)
     ensures core { station.new.core ≡ station.old.core }
     ensures store { (r : Result (Unit {0}) StoreFault) × CopiesLog S.is_honest S.is_open S.rows S.may_find S.saves
         S.failures S.doubts station.old.store station.new.store r }
 {
+    // A copy that fails leaves all rows in the log. If it shuts the store, the station stops at its next save.
     let _ = station.stable_mut().copy_log(alloc);
 }
 
-/// Does so if it is time for it.
+/// Lets the store copy its log, if it is time for a look at it.
 fn rest<S: LoggedStable, R: Clock + AllocGlobal>(
     rt: &R,
     timer: &mut LogTimer,
@@ -55,7 +60,7 @@ fn rest<S: LoggedStable, R: Clock + AllocGlobal>(
     }
 }
 
-/// Serves so many turns, or until a fault ends it.
+/// Serves a node for these turns, or until a fault ends it. Returns the fault, if any.
 fn served<
     S: LoggedStable,
     L: DatagramLink,
@@ -93,21 +98,23 @@ fn served<
                     Err(fault) => return Err(fault),
                 }
             }
+            // The loop above never ends by itself.
             unreachable!()
         }
     }
 }
 
-/// How a station is served: how long, whose seats its desk has, and where it is counted.
+/// How a station is served: the values that `StationLoop::serve` gives to the node that it makes.
 #[derive(Clone, Copy)]
 struct ServicePlan<'a, 'b> {
     turns: Turns,
-    /// The operators by seat.
+    /// The operator of each seat, by seat. The last seat, which is for reports, is not in it.
     operators: &'a [u16],
+    /// The counters that the turns raise.
     stats: &'b NodeStats,
 }
 
-/// Returns the plan of a service.
+/// Makes the plan of a service. It is a function, because the proof of `serve` names what it promises.
 fn plan_of<'a, 'b>(turns: Turns, operators: &'a [u16], stats: &'b NodeStats) -> ServicePlan<'a, 'b>
     ensures turns { result.turns ≡ turns }
     ensures operators { result.operators.now ≡ operators.now }
@@ -119,8 +126,8 @@ fn plan_of<'a, 'b>(turns: Turns, operators: &'a [u16], stats: &'b NodeStats) -> 
     }
 }
 
-/// Makes a node of a station and its parts, and serves it.
-// The parts come one by one: the prover loses what becomes of a station whose node is made of a larger value.
+/// Makes a node of a station and its parts, and serves it. Returns the fault that ended it, if any.
+// The parts come one by one, because the prover loses what becomes of a station if its node is made of a larger value.
 fn serve_parts<
     S: LoggedStable,
     L: DatagramLink,
@@ -156,25 +163,28 @@ fn serve_parts<
     served(rt, plan.turns, &mut node, link, observer)
 }
 
-/// What a station is served with.
+/// The fields of a [`StationLoop`].
 #[derive(Drop)]
 struct StationLoopParts<L: Drop, V: Drop> {
+    /// The link to the other stations.
     link: L,
+    /// The station's end of all seats.
     desk: Desk,
+    /// The counters that turns raise, and that sessions read.
     stats: Arc<NodeStats, Global>,
+    /// What is told of each step: the journal and the forwarder.
     observer: V,
 }
 
-/// What a station is served with, beside its board: its link, the desk of its seats, its statistics, and who observes
-/// its steps.
+/// All that a station is served with, beside its board.
 #[derive(Drop)]
 pub(crate) struct StationLoop<L: Drop, V: Drop> {
-    // Behind a box, so that a place that drops a service is not expensive to prove.
+    // In a box, because each function that drops the parts themselves is expensive to prove.
     parts: Box<StationLoopParts<L, V>>,
 }
 
 impl<L: DatagramLink + Drop, V: StepObserver + Drop> StationLoop<L, V> {
-    /// Makes a service with this link, at this desk, with these statistics, and before this observer.
+    /// Makes a loop with this link, this desk, these statistics and this observer. Fails if memory was refused.
     pub(crate) fn new(
         alloc: Global,
         link: L,
@@ -192,7 +202,8 @@ impl<L: DatagramLink + Drop, V: StepObserver + Drop> StationLoop<L, V> {
         Ok(StationLoop { parts })
     }
 
-    /// Serves a station whose desk has the seats of these operators by seat, so long or until a fault ends it.
+    /// Serves a station for these turns, or until a fault ends it. `operators` has the operator of each seat of the
+    /// desk. Returns the fault, if any.
     pub(crate) fn serve<S: LoggedStable, J: BoardId, R: Wait + Clock + AllocGlobal>(
         &mut self,
         rt: &R,

@@ -1,4 +1,8 @@
-//! Writes the standard output without holding up the sessions.
+//! Writes the standard output on a thread of its own, because such a write waits, and the sessions must not.
+//!
+//! `console_loop` has the [`StdoutSender`], and `threads` starts the thread that has the [`StdoutReceiver`]. Blocks go
+//! over a bounded channel; what finds no room stays with the session. docs/FORMATS.md, "Connections", says when an
+//! output that nobody reads counts as one that can't be written.
 
 use crate::console_waker::ConsoleWaker;
 use crossbeam_channel::{Receiver, Sender, TrySendError, bounded};
@@ -10,25 +14,28 @@ use std::io::Write;
 use std::sync::atomic::{AtomicBool, AtomicUsize, Ordering};
 use std::sync::{Arc, Wait};
 
-/// How many bytes are handed on at once, and how many times before they are written.
-const AT_ONCE: usize = 4_096;
+/// The most bytes of a block: no more are copied and written at once.
+const BLOCK_BYTES: usize = 4_096;
 
-const HANDED: usize = 16;
+/// The most blocks that wait in the channel: with 4,096 bytes each as many bytes as a session may have unsent.
+const MOST_WAITING: usize = 16;
 
-/// The most bytes that are handed on to one end of the standard output: after them it counts as faulty.
-const MOST: u64 = 1 << 48;
+/// The most blocks that are written. The bound is there so that the loop ends, as the prover wants; no node lives as
+/// long. After it the output counts as faulty.
+const MOST_BLOCKS: u64 = 1 << 48;
 
-/// What the writing thread and that of the sessions know of each other.
+/// What the thread of the sessions knows of the one that writes.
 #[derive(Drop)]
 struct WriterStatus {
-    /// How many blocks were handed on and are not written.
+    /// How many blocks were sent and are not written yet. The thread of the sessions raises it, and the one that writes
+    /// lowers it.
     unwritten: AtomicUsize,
-    /// Whether a write has failed.
+    /// True if a write has failed. Then the thread that writes has ended.
     has_failed: AtomicBool,
 }
 
 impl WriterStatus {
-    /// Returns a status with nothing handed on.
+    /// Makes the status of a writer to which nothing was sent.
     fn new() -> WriterStatus {
         WriterStatus {
             unwritten: AtomicUsize::new(0),
@@ -37,7 +44,7 @@ impl WriterStatus {
     }
 }
 
-/// The sender of blocks to the thread that writes the standard output. It never waits.
+/// The sender of blocks to the thread that writes the standard output. No call of it waits.
 #[derive(Drop)]
 pub(crate) struct StdoutSender {
     alloc: Global,
@@ -45,14 +52,14 @@ pub(crate) struct StdoutSender {
     status: Arc<WriterStatus, Global>,
 }
 
-/// The receiver of these blocks, for the thread that writes.
+/// The receiver of these blocks, for the thread that writes them.
 #[derive(Drop)]
 pub(crate) struct StdoutReceiver {
     blocks: Receiver<Vec<u8>>,
     status: Arc<WriterStatus, Global>,
 }
 
-/// Returns what both ends know.
+/// Makes the status that both ends share. Fails if memory was refused.
 fn new_status(alloc: Global) -> Result<Arc<WriterStatus, Global>, AllocError> {
     match Arc::new(alloc, WriterStatus::new()) {
         Ok(status) => Ok(status),
@@ -60,30 +67,35 @@ fn new_status(alloc: Global) -> Result<Arc<WriterStatus, Global>, AllocError> {
     }
 }
 
-/// Opens both ends of a way to the standard output, on which nothing was handed on.
+/// Makes both ends of the channel to the standard output. Fails if memory was refused.
 pub(crate) fn open_stdout(alloc: Global) -> Result<(StdoutSender, StdoutReceiver), AllocError> {
     let status = new_status(alloc)?;
-    let own = Arc::try_clone(&status)?;
-    let (sender, blocks) = bounded(alloc, HANDED)?;
+    let sender_status = Arc::try_clone(&status)?;
+    let (sender, blocks) = bounded(alloc, MOST_WAITING)?;
     let stdout = StdoutSender {
         alloc,
         blocks: sender,
-        status: own,
+        status: sender_status,
     };
     Ok((stdout, StdoutReceiver { blocks, status }))
 }
 
 impl StdoutSender {
-    /// Returns true if all that was handed on is written.
+    /// Returns true if all that was sent is written.
     pub(crate) fn is_written(&self) -> bool {
         self.status.unwritten.load(Ordering::SeqCst) == 0
     }
 
-    /// Hands on a block of what a session is to be told. Whether there was room.
-    fn hand_on<R: Wait>(&self, rt: &R, session: &mut Session) -> Result<bool, Unwritten> {
-        let said = session.output();
-        let count = said.len().min(AT_ONCE);
-        let block = Vec::from_slice(self.alloc, said.get(..count).unwrap_or(said))?;
+    /// Sends the first block of a session's output. Returns false if the channel has no room: then the session keeps
+    /// it.
+    ///
+    /// Fails if memory was refused or the thread that writes is gone. Then `unwritten` stays one too high, and nobody
+    /// reads it any more, because the caller (`poll_stdin` of `console_loop`) ends the standard input.
+    fn send_block<R: Wait>(&self, rt: &R, session: &mut Session) -> Result<bool, Unwritten> {
+        let output = session.output();
+        let count = output.len().min(BLOCK_BYTES);
+        let block = Vec::from_slice(self.alloc, output.get(..count).unwrap_or(output))?;
+        // Before the send, because the other thread may have written the block when the send returns.
         self.status.unwritten.fetch_add(1, Ordering::SeqCst);
         match self.blocks.try_send(rt, block) {
             Ok(()) => {
@@ -98,15 +110,17 @@ impl StdoutSender {
         Ok(false)
     }
 
-    /// Hands on what a session is to be told, as far as there is room; the rest stays with the session.
+    /// Sends a session's output, as far as the channel has room. The rest stays with the session.
     ///
-    /// `Writer` is answered if a write has failed, or if more stays than a session may have unsent.
+    /// Fails with `Writer` if a write has failed, or if more stays than a session may have unsent, and with `Memory` if
+    /// memory was refused.
     pub(crate) fn send<R: Wait>(&self, rt: &R, session: &mut Session) -> Result<(), Unwritten> {
         if self.status.has_failed.load(Ordering::SeqCst) {
             return Err(Unwritten::Writer);
         }
-        for _ in 0..HANDED {
-            if session.output().is_empty() || !self.hand_on(rt, session)? {
+        // No more blocks find room.
+        for _ in 0..MOST_WAITING {
+            if session.output().is_empty() || !self.send_block(rt, session)? {
                 break;
             }
         }
@@ -117,20 +131,20 @@ impl StdoutSender {
     }
 }
 
-/// Writes a block, whole.
+/// Writes and flushes a block. Returns false if that fails.
 fn write_block<W: Write>(writer: &mut W, block: &[u8]) -> bool {
     write_whole(writer, block).is_ok() && writer.flush().is_ok()
 }
 
-/// Writes block after block, until nobody hands on more, or a write fails; after each it wakes the thread of the
-/// sessions.
+/// Writes block after block, and wakes the thread of the sessions after each. Returns if that thread is gone, or if a
+/// write fails, which that thread finds in `has_failed`.
 pub(crate) fn write_all<W: Write, R: Wait>(
     rt: &R,
     receiver: &StdoutReceiver,
     waker: &ConsoleWaker,
     writer: &mut W,
 ) {
-    for _ in 0..MOST {
+    for _ in 0..MOST_BLOCKS {
         let Ok(block) = receiver.blocks.recv(rt) else {
             return;
         };

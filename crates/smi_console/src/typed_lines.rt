@@ -1,39 +1,43 @@
-//! What people and programs type that a journal tells: orders, reports, and remarks.
+//! Sends the lines that people and programs type to the journal of a node.
+//!
+//! `connection` and `connection_set` call it for each line of a session, before the line is handled. `journal_keeper`
+//! receives the lines on the station's thread, and notes orders, reports and remarks of them before the next step
+//! (docs/FORMATS.md, "Journals", `typed`).
 
 use crossbeam_channel::Sender;
 use smi_journal::TypedLine;
 use std::alloc::{AllocError, Global};
 use std::sync::Wait;
 
-/// The way on which what is typed goes to the journal of a node, if it has one.
+/// The sender of typed lines to the journal of a node. None if the node has no journal.
 #[derive(Drop)]
 pub(crate) struct TypedLines {
-    way: Option<Sender<TypedLine>>,
+    channel: Option<Sender<TypedLine>>,
 }
 
 impl TypedLines {
-    /// Makes a way to a journal, or to none.
-    pub(crate) fn new(way: Option<Sender<TypedLine>>) -> TypedLines {
-        TypedLines { way }
+    /// Makes a sender over this channel, or one that sends nothing.
+    pub(crate) fn new(channel: Option<Sender<TypedLine>>) -> TypedLines {
+        TypedLines { channel }
     }
 
-    /// Returns the same way for somebody else.
+    /// Returns another sender to the same journal, for a new connection. Fails if memory was refused.
     pub(crate) fn try_clone(&self) -> Result<TypedLines, AllocError> {
-        let way = match &self.way {
-            Some(way) => Some(way.clone()?),
+        let channel = match &self.channel {
+            Some(channel) => Some(channel.clone()?),
             None => None,
         };
-        Ok(TypedLines { way })
+        Ok(TypedLines { channel })
     }
 
-    /// Tells a line of a session before it is heard. What the way has no room for is left out, because no order is held
-    /// up by a journal.
-    pub(crate) fn tell<R: Wait>(&self, rt: &R, alloc: Global, session: u64, line: &[u8]) {
-        let Some(way) = &self.way else {
+    /// Sends a line of a session, if a journal tells such lines. Skips it if the channel is full or memory was refused,
+    /// because a journal must not hold up an order.
+    pub(crate) fn send<R: Wait>(&self, rt: &R, alloc: Global, session: u64, line: &[u8]) {
+        let Some(channel) = &self.channel else {
             return;
         };
         if let Ok(Some(typed)) = TypedLine::of(alloc, session, line) {
-            let _ = way.try_send(rt, typed);
+            let _ = channel.try_send(rt, typed);
         }
     }
 }
