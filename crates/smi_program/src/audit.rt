@@ -1,4 +1,7 @@
-//! Runs an audit: reads its tree, and then the files of its journals.
+//! Runs `smi audit`: reads its tree file, and then has `smi_replay` audit the files of the journals.
+//!
+//! `commands` calls [`audit_files`]. docs/FORMATS.md, "The verdict of an audit", says what is written. What an audit
+//! finds is proved in `smi_audit` and `smi_replay`; here are its files, its writer and its exit status.
 
 use crate::line::AuditLine;
 use crate::reopened_file::ReopenedFile;
@@ -10,7 +13,7 @@ use std::alloc::{AllocError, Global};
 use std::io::{BufWriter, Write};
 use std::rt::Files;
 
-/// Audits as its line says, and returns how that ended.
+/// Audits the journals that the command line names. Writes the verdict, and returns the exit status.
 pub fn audit_files<H: Files + AllocGlobal + Clone + Drop, W: Write + Drop, F: Write>(
     host: &H,
     words: &Words,
@@ -30,7 +33,9 @@ pub fn audit_files<H: Files + AllocGlobal + Clone + Drop, W: Write + Drop, F: Wr
     audit_on(host, words, &audited, line, writer, faults)
 }
 
-/// Returns the files of the journals: all words after the tree but the option.
+/// Returns the files of the journals, not opened yet: all words after the tree but the option `--trace`.
+///
+/// Fails if memory was refused.
 fn journal_files<H: Files + AllocGlobal + Clone + Drop>(
     host: &H,
     words: &Words,
@@ -38,19 +43,21 @@ fn journal_files<H: Files + AllocGlobal + Clone + Drop>(
 ) -> Result<Vec<JournalFile<ReopenedFile<H>>>, AllocError> {
     let alloc = host.alloc();
     let mut files = Vec::new(alloc);
-    let mut is_after = false;
+    let mut is_after_tree = false;
+    // The program's own name and the command come first.
     for (word, bytes) in words.texts.iter().zip(words.bytes.iter()).skip(2) {
-        if is_after && word.as_str() != "--trace" {
+        if is_after_tree && word.as_str() != "--trace" {
             let name = Vec::from_slice(alloc, bytes.as_slice())?;
             let path = Vec::from_slice(alloc, bytes.as_slice())?;
             let source = ReopenedFile::new(host.clone()?, path);
             files.push(JournalFile::new(alloc, name, source))?;
         }
-        is_after = is_after || word.as_str() == line.tree;
+        is_after_tree = is_after_tree || word.as_str() == line.tree;
     }
     Ok(files)
 }
 
+/// Audits the journals of this tree that the command line names. Returns the exit status.
 fn audit_on<H: Files + AllocGlobal + Clone + Drop, W: Write + Drop, F: Write>(
     host: &H,
     words: &Words,
@@ -62,7 +69,7 @@ fn audit_on<H: Files + AllocGlobal + Clone + Drop, W: Write + Drop, F: Write>(
     let Ok(mut files) = journal_files(host, words, line) else {
         return no_memory(faults);
     };
-    audit_opened(
+    audit_journals(
         host.alloc(),
         audited,
         line,
@@ -72,8 +79,9 @@ fn audit_on<H: Files + AllocGlobal + Clone + Drop, W: Write + Drop, F: Write>(
     )
 }
 
-// Over any reader, since a host's files are expensive to prove.
-fn audit_opened<R: JournalSource + Drop, W: Write + Drop, F: Write>(
+/// Audits these journals, with the merged trace if the line asks for it. Returns the exit status.
+// It is over any reader, because a function that names a host's files is expensive to prove.
+fn audit_journals<R: JournalSource + Drop, W: Write + Drop, F: Write>(
     alloc: Global,
     audited: &AuditedTree<'_>,
     line: AuditLine<'_>,
@@ -95,6 +103,7 @@ fn audit_opened<R: JournalSource + Drop, W: Write + Drop, F: Write>(
     status_of(end, faults)
 }
 
+/// Returns the exit status of an audit, and writes its fault, if it ended with one. The verdict is written by then.
 fn status_of<F: Write>(end: AuditEnd, faults: &mut F) -> Status {
     match end {
         AuditEnd::Safe => Status::Done,

@@ -1,4 +1,8 @@
-//! What is in the way of a command, in words for a person.
+//! Says in words what is in the way of a command, for a person at a terminal or the reader of a service's journal.
+//!
+//! `cause_search` finds the [`Cause`], and `telling_more` writes it after the line of the fault, and asks whether it
+//! lasts. A service whose fault lasts ends with status 5 (docs/NUMBERS.md, "Statuses of the program"). No program reads
+//! the words.
 
 use std::io::{self, ErrorKind, Write};
 use std::net::SocketAddr;
@@ -6,7 +10,9 @@ use std::net::SocketAddr;
 /// What a command could not read, keep or reach, and why.
 #[derive(Clone, Copy)]
 pub(crate) struct Cause<'a> {
+    /// The path or the address.
     pub(crate) what: PathOrAddress<'a>,
+    /// The reason.
     pub(crate) why: Why,
 }
 
@@ -20,27 +26,36 @@ pub(crate) enum PathOrAddress<'a> {
 /// Why a path or an address is not to be had.
 #[derive(Clone, Copy)]
 pub(crate) enum Why {
+    /// There is no such file or folder.
     Missing,
+    /// The rights of the file or folder refuse it.
     NoRight,
+    /// It is a folder, and a file or a socket is wanted.
     IsFolder,
+    /// It, or a part of its path, is no folder, and a folder is wanted.
     NoFolder,
+    /// The file does not begin as a store does.
     NoStore,
-    /// Neither a file nor a folder, but a socket or a device.
+    /// It is neither a file nor a folder, but a socket or a device.
     NoRegularFile,
+    /// It is a file, and a socket is wanted.
     NoSocket,
     /// Another process has it open, or listens there.
     InUse,
+    /// No interface of this machine has the address.
     NotOfThisMachine,
+    /// It is not there, its folder is, and it could not be made.
     NotMade,
+    /// It is a folder, as it has to be, and no file could be made in it.
     NoFileMade,
     /// The file can be opened and begins as a store does, or is empty, and no more is known.
     NoUse,
-    /// What the system says.
+    /// Any other error of the system.
     System(io::Error),
 }
 
 impl Why {
-    /// Returns why the system refused something.
+    /// Returns the reason that an error of the system says.
     pub(crate) fn of(error: io::Error) -> Why {
         match error.kind() {
             ErrorKind::NotFound => Why::Missing,
@@ -53,8 +68,8 @@ impl Why {
         }
     }
 
-    /// Returns true if it is so until somebody changes a path or its rights, so that it would be the same at the next
-    /// start.
+    /// Returns true if the reason stays until somebody changes a path or its rights, so that the next start would end
+    /// the same way. An address may come up later, and a disk may get room, so these don't last.
     pub(crate) fn lasts(self) -> bool {
         match self {
             Why::Missing
@@ -73,7 +88,7 @@ impl Why {
         }
     }
 
-    /// Writes it in words.
+    /// Writes the reason in words.
     fn tell<F: Write>(self, faults: &mut F) -> io::Result<()> {
         let words: &[u8] = match self {
             Why::Missing => b"there is no such file or folder",
@@ -95,7 +110,7 @@ impl Why {
 }
 
 impl PathOrAddress<'_> {
-    /// Writes it, with a question mark for what a terminal would not print but do.
+    /// Writes the path or the address, with a question mark for each control character, which a terminal would obey.
     fn tell<F: Write>(self, faults: &mut F) -> io::Result<()> {
         match self {
             PathOrAddress::Address(address) => write!(faults, "{address}"),
@@ -111,7 +126,7 @@ impl PathOrAddress<'_> {
 }
 
 impl Cause<'_> {
-    /// Writes it as one line.
+    /// Writes the cause as one line, after four spaces.
     pub(crate) fn tell<F: Write>(self, faults: &mut F) -> io::Result<()> {
         faults.write_all(b"    ")?;
         self.what.tell(faults)?;

@@ -1,4 +1,8 @@
-//! Finds out what was in the way of a command, by a second look once it has ended.
+//! Finds out what was in the way of a command that has ended with a fault, by looking again.
+//!
+//! `telling_more` calls [`cause_of`] with the line of the fault, which has to be one of docs/NUMBERS.md, "Lines on
+//! standard error". The look opens and binds what the command has opened and bound, makes no file, and finds nothing if
+//! all is well by then.
 
 use crate::cause::{Cause, PathOrAddress, Why};
 use crate::line::{CommandLine, ConsolePlace, Schedule, line_of};
@@ -14,21 +18,22 @@ use std::os::unix::fs::{FileTypeExt, MetadataExt};
 use std::os::unix::net::UnixStream;
 use std::rt::Files;
 
-/// The most paths that a command reads and that have a place in its form.
+/// The most paths that a command reads and that its form has a word for: a screen has a tree, a style and a token.
 const MOST_PATHS: usize = 3;
 
-/// How a file begins that has a store.
+/// The first bytes of the file of a store: the head of SQLite's format. `smi_stable` writes such files.
 const STORE_HEAD: &[u8] = b"SQLite format 3\0";
 
-/// How the number of the first byte begins that a lock of a store has: such locks are of bytes from 2 ^ 30 on.
+/// The first digits of the number of the first byte that a lock of a store has: SQLite locks bytes from 2^30
+/// (1,073,741,824) on.
 const LOCKED_BYTES: &str = "107374";
 
-/// How much of the system's table of locks is read, in bytes.
+/// The most bytes of the system's table of locks that are read, so that a huge table takes no more memory.
 const MOST_LOCK_BYTES: u64 = 1 << 20;
 
-/// Returns what is in the way of the command of this line, which has ended with this line of a fault.
+/// Returns what is in the way of the command of these words, which has ended with this line of a fault.
 ///
-/// It looks once more, and returns nothing if all is well by now, or if it knows no more of such a fault.
+/// Returns None if all is well by now, or if no look tells more of such a fault.
 pub(crate) fn cause_of<'a, H: Files + Net + AllocGlobal>(
     host: &H,
     words: &'a Words,
@@ -47,7 +52,7 @@ pub(crate) fn cause_of<'a, H: Files + Net + AllocGlobal>(
     }
 }
 
-/// Returns the paths of the files that a command line has read, as far as they have a place in its form.
+/// Returns the paths of the files that a command has read, but for the journals of an audit, which may be many.
 fn read_paths(line: CommandLine<'_>) -> [Option<&str>; MOST_PATHS] {
     match line {
         CommandLine::Check(line) => [Some(line.tree), None, None],
@@ -64,7 +69,7 @@ fn read_paths(line: CommandLine<'_>) -> [Option<&str>; MOST_PATHS] {
     }
 }
 
-/// Returns the first file of a line that can't be read.
+/// Returns the first file of a command that can't be read, and why.
 fn read_cause<'a, H: Files + AllocGlobal>(
     host: &H,
     words: &'a Words,
@@ -81,9 +86,10 @@ fn read_cause<'a, H: Files + AllocGlobal>(
     }
 }
 
-/// Returns the first journal of an audit that can't be read: each word after the command and the tree that is no
-/// option.
+/// Returns the first journal of an audit that can't be read, and why. It tries each word after the program's name, the
+/// command and the tree that is no option.
 fn journal_file_cause<'a, H: Files + AllocGlobal>(host: &H, words: &'a Words) -> Option<Cause<'a>> {
+    // If the option comes before the tree, the tree is tried again, which can be read.
     for (text, bytes) in words.texts.iter().zip(words.bytes.iter()).skip(3) {
         if text.as_str().starts_with("--") {
             continue;
@@ -95,14 +101,14 @@ fn journal_file_cause<'a, H: Files + AllocGlobal>(host: &H, words: &'a Words) ->
     None
 }
 
-/// Opens a file and reads a byte of it, if it has one.
+/// Opens a file and reads a byte of it, if it has one. Fails as the command would.
 fn read_some<H: Files + AllocGlobal>(host: &H, path: &[u8]) -> io::Result<()> {
     let mut byte = [0u8; 1];
     open(host, path)?.read(&mut byte)?;
     Ok(())
 }
 
-/// Returns what is in the way of a line's store.
+/// Returns what is in the way of the store of a command.
 fn store_cause<'a, H: Files + AllocGlobal>(host: &H, line: CommandLine<'a>) -> Option<Cause<'a>> {
     match line {
         CommandLine::Node(line) => Some(kept_store_cause(host, line.store)),
@@ -112,7 +118,7 @@ fn store_cause<'a, H: Files + AllocGlobal>(host: &H, line: CommandLine<'a>) -> O
     }
 }
 
-/// Returns what is in the way of a store that is made if it is not there.
+/// Returns what is in the way of the store of a node or a screen, which they make if it is missing.
 fn kept_store_cause<'a, H: Files + AllocGlobal>(host: &H, path: &'a str) -> Cause<'a> {
     match kept_file_cause(host, path) {
         Some(cause) => cause,
@@ -120,7 +126,7 @@ fn kept_store_cause<'a, H: Files + AllocGlobal>(host: &H, path: &'a str) -> Caus
     }
 }
 
-/// Returns what is in the way of a file that is made if it is not there.
+/// Returns what is in the way of a file that the command makes if it is missing. None if the file can be written.
 fn kept_file_cause<'a, H: Files>(host: &H, path: &'a str) -> Option<Cause<'a>> {
     let folder = folder_of(path);
     if let Err(e) = fs::metadata(host, folder) {
@@ -139,7 +145,7 @@ fn kept_file_cause<'a, H: Files>(host: &H, path: &'a str) -> Option<Cause<'a>> {
     Some(at_path(path, why))
 }
 
-/// Returns why the store of a path can't be read.
+/// Returns why the store of this path can't be read.
 fn read_store_why<H: Files + AllocGlobal>(host: &H, path: &str) -> Why {
     let found = match fs::metadata(host, path) {
         Ok(found) => found,
@@ -159,7 +165,7 @@ fn read_store_why<H: Files + AllocGlobal>(host: &H, path: &str) -> Why {
     }
 }
 
-/// Returns true if a file begins as one that has a store, or is empty, as one is that was never saved to.
+/// Returns true if a file begins as the file of a store, or is empty, as one to which nothing was saved.
 fn begins_as_store<H: Files + AllocGlobal>(host: &H, path: &str) -> io::Result<bool> {
     let mut head = Vec::new(host.alloc());
     let most = STORE_HEAD.len() as u64;
@@ -167,13 +173,14 @@ fn begins_as_store<H: Files + AllocGlobal>(host: &H, path: &str) -> io::Result<b
     Ok(head.is_empty() || head.as_slice() == STORE_HEAD)
 }
 
-/// Returns true if a process has locked a file, by the system's table of locks (proc(5)).
+/// Returns true if a process has locked a store's file, by the system's table of locks (proc(5)).
 fn is_locked<H: Files + AllocGlobal>(host: &H, file: &Metadata) -> bool {
+    // Without the table nothing is known, and the cause is told as `NoUse`.
     lock_table_has(host, file).unwrap_or(false)
 }
 
-/// Returns true if the system's table of locks has a lock of a store's file of this number, on any device: some file
-/// systems show a program another device than the table has.
+/// Returns true if the system's table of locks has a lock of a store on a file of this inode number. It compares no
+/// device, because some file systems show a program another device than the table has.
 fn lock_table_has<H: Files + AllocGlobal>(host: &H, file: &Metadata) -> io::Result<bool> {
     let mut bytes = Vec::new(host.alloc());
     fs::open(host, "/proc/locks")?
@@ -185,7 +192,7 @@ fn lock_table_has<H: Files + AllocGlobal>(host: &H, file: &Metadata) -> io::Resu
     Ok(text.split_once(wanted.as_str()).is_some())
 }
 
-/// Returns what is in the way of a station's own address.
+/// Returns what is in the way of binding the station's own address.
 fn link_cause<'a, H: Files + Net + AllocGlobal>(
     host: &H,
     words: &'a Words,
@@ -203,7 +210,8 @@ fn link_cause<'a, H: Files + Net + AllocGlobal>(
     }
 }
 
-/// Returns the address of the station of this name, by the tree file of this path.
+/// Returns the address of the station of this name, by the tree file of this path. None if the file can't be read or
+/// has no such station.
 fn own_address<H: Files + AllocGlobal>(
     host: &H,
     words: &Words,
@@ -220,11 +228,11 @@ fn own_address<H: Files + AllocGlobal>(
         return None;
     };
     let number = tree.station_named(station.as_bytes()).unwrap_or(0);
-    let before = usize::from(number).checked_sub(1)?;
-    peers.as_slice().get(before).copied()
+    let index = usize::from(number).checked_sub(1)?;
+    peers.as_slice().get(index).copied()
 }
 
-/// Returns what is in the way of a node's listening for consoles.
+/// Returns what is in the way of the first console address of a node at which it can't listen.
 fn console_cause<'a, H: Files + Net>(host: &H, line: CommandLine<'a>) -> Option<Cause<'a>> {
     let CommandLine::Node(line) = line else {
         return None;
@@ -241,7 +249,7 @@ fn console_cause<'a, H: Files + Net>(host: &H, line: CommandLine<'a>) -> Option<
     None
 }
 
-/// Returns what is in the way of listening at an address.
+/// Returns what is in the way of listening at a TCP address.
 fn listener_cause<'a, H: Net>(host: &H, address: SocketAddr) -> Option<Cause<'a>> {
     match TcpListener::bind(host, address) {
         Ok(_) => None,
@@ -249,7 +257,8 @@ fn listener_cause<'a, H: Net>(host: &H, address: SocketAddr) -> Option<Cause<'a>
     }
 }
 
-/// Returns what is in the way of listening at a socket of this path. One at which no process listens is in no way.
+/// Returns what is in the way of listening at a Unix socket of this path. A socket file at which no process listens is
+/// not in the way, because a node replaces it.
 fn socket_cause<'a, H: Files + Net>(host: &H, path: &'a str) -> Option<Cause<'a>> {
     let folder = folder_of(path);
     if let Err(e) = fs::metadata(host, folder) {
@@ -269,7 +278,7 @@ fn socket_cause<'a, H: Files + Net>(host: &H, path: &'a str) -> Option<Cause<'a>
     Some(at_path(path, why))
 }
 
-/// Returns what is in the way of a screen's listening for browsers.
+/// Returns what is in the way of listening at the HTTP address of a screen.
 fn screen_cause<'a, H: Net>(host: &H, line: CommandLine<'a>) -> Option<Cause<'a>> {
     match line {
         CommandLine::Screen(line) => listener_cause(host, line.http),
@@ -277,7 +286,8 @@ fn screen_cause<'a, H: Net>(host: &H, line: CommandLine<'a>) -> Option<Cause<'a>
     }
 }
 
-/// Returns what is in the way of a node's journal.
+/// Returns what is in the way of the journal of a node. If its folder is there, all that is known is that no file could
+/// be made in it.
 fn journal_cause<'a, H: Files>(host: &H, line: CommandLine<'a>) -> Option<Cause<'a>> {
     let CommandLine::Node(line) = line else {
         return None;
@@ -299,7 +309,7 @@ fn history_cause<'a, H: Files>(host: &H, line: CommandLine<'a>) -> Option<Cause<
     }
 }
 
-/// Returns the folder of a path.
+/// Returns the folder of a path, `.` if the path has no slash.
 fn folder_of(path: &str) -> &str {
     match path.rsplit_once('/') {
         Some(("", _)) => "/",
@@ -308,6 +318,7 @@ fn folder_of(path: &str) -> &str {
     }
 }
 
+/// Returns the cause that this path is in the way.
 fn at_path(path: &str, why: Why) -> Cause<'_> {
     Cause {
         what: PathOrAddress::Path(path),
@@ -315,6 +326,7 @@ fn at_path(path: &str, why: Why) -> Cause<'_> {
     }
 }
 
+/// Returns the cause that this address is in the way.
 fn at_address<'a>(address: SocketAddr, why: Why) -> Cause<'a> {
     Cause {
         what: PathOrAddress::Address(address),

@@ -1,4 +1,7 @@
 //! Runs the command that a command line names, over any files, input and outputs.
+//!
+//! `main` of the crate `smi` calls [`program`] once. Each command has its own file here (`audit`, `node`, `screen`,
+//! `sim`) or is in `smi_commands`. docs/NUMBERS.md has the exit statuses and the lines on standard error.
 
 use crate::audit::audit_files;
 use crate::line::{CheckLine, CommandLine, line_of};
@@ -24,8 +27,8 @@ use std::time::Clock;
 
 /// Does what the words of the command line ask for, and returns the exit status.
 ///
-/// It tells on `faults`, which is standard error, what is amiss. `aside` is standard error too: the thread of a node
-/// that reads lines has a handle of its own.
+/// It writes faults on `faults`, which is standard error. `aside` is a second handle of standard error, for the thread
+/// of a node's sessions, which writes at the same time.
 pub fn program<
     H: Files
         + Stores
@@ -68,12 +71,13 @@ pub fn program<
     }
 }
 
-/// Tells how answering datagrams ended, and returns the status of that.
+/// Writes the fault with which answering datagrams ended, if any. Returns the exit status.
 fn print_answered<F: Write>(answered: Answered, faults: &mut F) -> Status {
     match answered {
         Answered::Ended => Status::Done,
-        Answered::Refused(place, refusal) => {
-            let _ = writeln!(faults, "datagram {place} refused {refusal}");
+        Answered::Refused(number, refusal) => {
+            // If standard error can't be written, the status alone says so.
+            let _ = writeln!(faults, "datagram {number} refused {refusal}");
             Status::Refused
         }
         Answered::ReadFault => read_fault(faults),
@@ -82,8 +86,8 @@ fn print_answered<F: Write>(answered: Answered, faults: &mut F) -> Status {
     }
 }
 
-/// Reads a tree file, and prints what it has, or which line is faulty. The status is a number here, because `check` and
-/// `lint` return theirs so.
+/// Reads a tree file, and writes what it has, or which line is faulty. Returns the exit status, as a number because
+/// `check` and `lint` of `smi_commands` do.
 fn check_file<H: Files + AllocGlobal, W: Write + Drop, F: Write>(
     host: &H,
     words: &Words,
@@ -104,7 +108,7 @@ fn check_file<H: Files + AllocGlobal, W: Write + Drop, F: Write>(
     }
 }
 
-/// Prints the rows of a store, and returns the status of that.
+/// Writes the rows of the store of this path. Returns the exit status.
 fn list_rows<H: Stores + AllocGlobal, W: Write + Drop, F: Write>(
     host: &H,
     path: &[u8],

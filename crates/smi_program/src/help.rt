@@ -1,4 +1,7 @@
-//! Tells a person at a terminal where help is.
+//! Writes where help is, after a wrong command line, for a person at a terminal.
+//!
+//! `main` of the crate `smi` calls it last of all. Programs read standard error too, so nothing is written if it is no
+//! terminal (docs/NUMBERS.md, "Lines on standard error", `help: man smi`).
 
 ghost use Rattle.std.specs.Prelude.{ℕ, OnOk, take};
 ghost use Rattle.std.specs.Io.KnownBytes.{Appends};
@@ -8,10 +11,10 @@ use smi_base::{NotWritten, write_whole};
 use smi_commands::status::Status;
 use std::io::Write;
 
-/// Tells where help is, in one line more, if a command has ended as a wrong line and `faults` is a terminal. Else it
-/// writes nothing, so that a program that reads `faults` finds the one line alone.
+/// Writes where help is, as a second line, if a command has ended as a wrong line and `faults` is a terminal. Writes
+/// nothing otherwise, so that a program that reads `faults` finds the one line alone.
 ///
-/// Its error is that not all could be written.
+/// Fails if not all could be written.
 pub fn tell_help<F: Write>(status: u8, is_terminal: bool, faults: &mut F) -> Result<(), NotWritten>
     ensures all { OnOk result
         (Appends (F.contents faults.old) (F.contents faults.new) (help_after status is_terminal)) }

@@ -1,21 +1,22 @@
-//! The commands of the program, over any files, stores, input and outputs.
+//! Runs the commands of the program `smi`, over any files, stores, input and outputs.
 //!
-//! [`words_of`] takes the words of a command line as the system has them, which need not be text, and [`line_of`]
-//! says what they ask for. [`program`] does that. At a terminal [`tell_help`] says after a wrong line where help is,
-//! and [`tell_more`], there and in a service, what is wrong with a tree file that was refused, and which path or
-//! address was in the way of what ended with a fault. [`LastLine`] knows the line that was told. A path is found again
-//! by the bytes of its word ([`bytes_of`]). What a command without stations does is proved in `smi_commands`; a node is
-//! run by `smi_console`, and a screen by `smi_screen`.
+//! `main` of the crate `smi` calls it with the real ones. [`words_of`] reads the words of the command line, which need
+//! not be text, and [`line_of`] parses them. [`program`] runs the command. At a terminal, [`tell_help`] writes after a
+//! wrong line where help is. There and in a service, [`tell_more`] writes what is wrong with a tree file that was
+//! refused, and which path or address was in the way of a command that ended with a fault; [`LastLine`] has the line of
+//! that fault. A path is found again by the bytes of its word ([`bytes_of`]). What a command without stations does is
+//! proved in `smi_commands`. `smi_console` runs a node, and `smi_screen` a screen.
 //!
-//! [`simulating::sim`] runs a schedule that is read, [`simulating::sim_drawn`] one that is drawn. What they write is
-//! the text of the schedule's trace, which is safe at every moment (`stream` and `stream_drawn` of `smi_world`); what
-//! is amiss is told in one line.
+//! [`simulating::sim`] runs a schedule that is read, [`simulating::sim_drawn`] one that is drawn. They write the text
+//! of the schedule's trace, which is safe at every moment (`stream` and `stream_drawn` of `smi_world`), and a fault as
+//! one line. README.md, "The commands", has the forms of the command line; docs/NUMBERS.md has the exit statuses and
+//! the lines on standard error.
 //!
-//! The page of a screen is one file, with its style and its script, which fetches nothing from elsewhere. It is
-//! written in parts, in the folder `page` beside this crate's sources, and served as the constant [`PAGE`], which
-//! tools/page.py puts together. After it comes what a style file says of states ([`page_with_style`]), if the screen
-//! has one. If orders may be given the page goes on ([`page_with_orders`]): after it come the key that a page has to
-//! show with each order, and the parts that give orders ([`ORDERS`]).
+//! The page of a screen is one file, with its style and its script, which fetches nothing from elsewhere. It is written
+//! in parts, in the folder `page` beside this crate's sources, and served as the constant [`PAGE`], which tools/page.py
+//! puts together. If the screen has a style file, a script with what the file says of states follows the page
+//! ([`page_with_style`]). If orders may be given, two more parts follow ([`page_with_orders`]): the key that a page has
+//! to show with each order, and the parts that give orders ([`ORDERS`]).
 #![tactic(auto)]
 
 mod audit;

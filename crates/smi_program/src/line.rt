@@ -1,4 +1,8 @@
-//! Parses the command line.
+//! Parses the command line into what it asks for.
+//!
+//! `commands` runs what [`line_of`] returns. `cause_search`, `telling_more` and `tree_words` parse the same words
+//! again, once the command has ended. README.md, "The commands", has the forms; a word that is no path or name is
+//! checked here, and whatever is no form is [`CommandLine::Wrong`], without a word of why.
 
 use clap::error::ErrorKind;
 use clap::{Arg, ArgAction, ArgMatches, Command, Error};
@@ -7,13 +11,13 @@ use smi_tree::number_within;
 use std::alloc::Global;
 use std::net::{SocketAddr, SocketAddrV4};
 
-/// The most turns of a node, and how many it serves if none are given.
+/// The most turns of a node or a screen, and how many they make if the line gives none.
 const MOST_TURNS: u32 = 1_000_000;
 
-/// For how many days the history of a screen is kept at most.
+/// The most days for which the history of a screen is kept (`--history-days`): a year.
 const MOST_DAYS: u64 = 366;
 
-/// The most items of a drawn schedule.
+/// The most items of a schedule that is drawn (`--steps`).
 const MOST_STEPS: u64 = 1_000_000;
 
 /// What the command line asks for.
@@ -35,108 +39,129 @@ pub enum CommandLine<'a> {
     Screen(ScreenLine<'a>),
     /// The words are none of the forms: so are `help` and `--help`.
     Wrong,
-    /// There was no memory to read the words.
+    /// Memory was refused while the words were parsed.
     NoMemory,
 }
 
-/// A check: the path of its tree, and whether it tells what is lawful there and surely not meant.
+/// The words of `smi check`.
 #[derive(Clone, Copy)]
 pub struct CheckLine<'a> {
+    /// The path of the tree file.
     pub tree: &'a str,
+    /// True if it writes what is lawful in the file and surely not meant (`--lint`).
     pub lints: bool,
 }
 
-/// A simulation: the path of its tree, its schedule, and whether it goes on until nothing is under way.
+/// The words of `smi sim`.
 #[derive(Clone, Copy)]
 pub struct SimLine<'a> {
+    /// The path of the tree file.
     pub tree: &'a str,
+    /// Where the schedule comes from.
     pub schedule: Schedule<'a>,
+    /// True if it goes on until nothing is under way (`--settle`).
     pub settles: bool,
 }
 
-/// An audit: the path of its tree, and whether the merged trace is written. Its files are the other words.
+/// The words of `smi audit`, but for the files of its journals: `audit` finds these among all words.
 #[derive(Clone, Copy)]
 pub struct AuditLine<'a> {
+    /// The path of the tree file.
     pub tree: &'a str,
+    /// True if the merged trace is written (`--trace`).
     pub traces: bool,
 }
 
-/// A schedule: the path of its file, or how it is drawn.
+/// Where a schedule comes from.
 #[derive(Clone, Copy)]
 pub enum Schedule<'a> {
+    /// The file of this path.
     File(&'a str),
+    /// The generator of this seed, which draws this many items.
     Drawn { seed: u64, steps: u64 },
 }
 
-/// The address of a console: over TCP, or a socket of this path.
+/// The address at which a node has a console.
 #[derive(Clone, Copy)]
 pub enum ConsolePlace<'a> {
+    /// TCP at this address.
     Address(SocketAddr),
+    /// A Unix socket of this path.
     Path(&'a str),
 }
 
-/// The folder of a node's journal, and whether each step that saved is synced there before anything of it is sent.
+/// How a node writes its journal.
 #[derive(Clone, Copy)]
 pub struct JournalOptions<'a> {
+    /// The path of its folder.
     pub folder: &'a str,
+    /// True if each step that saved is synced there before anything of it is sent (`--journal-sync`).
     pub is_synced: bool,
 }
 
-/// A node: the path of its tree, the name of its station, the path of its store, how long it serves, the
-/// places at which it listens for consoles, and the folder of its journal.
+/// The words of `smi node`.
 #[derive(Clone, Copy)]
 pub struct NodeLine<'a> {
+    /// The path of the tree file.
     pub tree: &'a str,
+    /// The name of its station.
     pub station: &'a str,
+    /// The path of its store.
     pub store: &'a str,
-    /// How many turns it serves, none if it serves without end.
+    /// How many turns it serves. None if it serves without end (`--endless`).
     pub turns: Option<u32>,
-    /// The places at which it listens for consoles; the second only beside a first.
+    /// The first address at which it listens for consoles (`--console`), if any.
     pub console: Option<ConsolePlace<'a>>,
+    /// The second address at which it listens for consoles. None if there is no first.
     pub second_console: Option<ConsolePlace<'a>>,
-    /// Whether it starts on a store that is older than its label.
+    /// True if it starts on a store that is older than its label, or damaged (`--accept-older`).
     pub accepts_older: bool,
-    /// The folder of its journal, if it has one.
+    /// How it writes its journal, if it has one (`--journal`).
     pub journal: Option<JournalOptions<'a>>,
-    /// From where its datagrams have to come.
+    /// From where its datagrams have to come (`--sources`).
     pub sources: Sources,
-    /// Whether it runs as a service, whose standard error people read as its journal.
+    /// True if it runs as a service (`--service`), whose standard error people read in the journal of systemd.
     pub is_service: bool,
 }
 
-/// A screen: the path of its tree, the name of its station, the path of its store, where browsers reach it, by what
-/// name they know it beside its address, where the orders go that are given from its page, and how long it looks.
+/// The words of `smi screen`.
 #[derive(Clone, Copy)]
 pub struct ScreenLine<'a> {
+    /// The path of the tree file.
     pub tree: &'a str,
+    /// The name of its station.
     pub station: &'a str,
+    /// The path of its store.
     pub store: &'a str,
+    /// The address at which browsers reach it (`--http`).
     pub http: SocketAddr,
+    /// The name by which browsers know it beside that address (`--host`). None if it is not open to other machines.
     pub name: Option<&'a str>,
-    /// The origin under which a proxy serves the page, if one does.
+    /// The origin under which a proxy serves the page (`--origin`), if one does.
     pub origin: Option<&'a str>,
-    /// The path of the file that says how its page shows states, if there is one.
+    /// The path of the file that says how its page shows states (`--style`), if there is one.
     pub style: Option<&'a str>,
-    /// From where its datagrams have to come.
+    /// From where its datagrams have to come (`--sources`).
     pub sources: Sources,
-    /// The console of the node whose operators may order from its page.
+    /// The console of the node whose operators may order from its page (`--orders`). None if its page gives no orders.
     pub orders: Option<ConsolePlace<'a>>,
-    /// The path of the file that has the token for its orders, if people have to know one.
+    /// The path of the file of the token that people have to know to order (`--token`). None if the page has a key
+    /// itself.
     pub token: Option<&'a str>,
-    /// The path of the file that keeps what it has seen, if there is one.
+    /// The path of the file that keeps what it has seen (`--history`), if there is one.
     pub history: Option<&'a str>,
-    /// For how many days what it has seen is kept, if not for the usual ones.
+    /// For how many days what it has seen is kept (`--history-days`). None for the days that `smi_screen` chooses.
     pub history_days: Option<u64>,
-    /// How many turns it looks, none if it looks without end.
+    /// How many turns it makes. None if it runs without end (`--endless`).
     pub turns: Option<u32>,
-    /// Whether it starts on a store that is older than its label.
+    /// True if it starts on a store that is older than its label, or damaged (`--accept-older`).
     pub accepts_older: bool,
-    /// Whether it runs as a service, whose standard error people read as its journal.
+    /// True if it runs as a service (`--service`), whose standard error people read in the journal of systemd.
     pub is_service: bool,
 }
 
 impl CommandLine<'_> {
-    /// Returns true if the command runs as a service.
+    /// Returns true if the command runs as a service. Only a node and a screen do.
     pub(crate) fn is_service(self) -> bool {
         match self {
             CommandLine::Node(line) => line.is_service,
@@ -148,7 +173,7 @@ impl CommandLine<'_> {
 
 /// Returns what the words of a command line ask for, the program's own name first.
 pub fn line_of(alloc: Global, words: &[String]) -> CommandLine<'_> {
-    // No form has the word that ends the options.
+    // No form has the word that ends the options, but `clap` takes it.
     if words.iter().skip(1).any(|word| word.as_str() == "--") {
         return CommandLine::Wrong;
     }
@@ -159,13 +184,14 @@ pub fn line_of(alloc: Global, words: &[String]) -> CommandLine<'_> {
     }
 }
 
+/// Returns what the words ask for. Fails if they are no form or memory was refused.
 fn parsed<'a>(alloc: Global, words: &'a [String]) -> Result<CommandLine<'a>, Error> {
     let command = forms(alloc)?;
     let matches = command.try_get_matches_from(words)?;
     Ok(line_in(&matches))
 }
 
-/// Returns what the words ask for that were found to be a form.
+/// Returns what the matched words ask for. A value that is none of its kind makes the line wrong.
 fn line_in<'a>(matches: &ArgMatches<'a>) -> CommandLine<'a> {
     match matches.subcommand() {
         Some(("answer", _)) => CommandLine::Answer,
@@ -184,7 +210,7 @@ fn line_in<'a>(matches: &ArgMatches<'a>) -> CommandLine<'a> {
     }
 }
 
-/// Returns all forms of the command line.
+/// Makes the forms of all commands. Fails if memory was refused.
 fn forms<'a>(alloc: Global) -> Result<Command<'a>, Error> {
     let command = Command::new(alloc, "smi").subcommand(Command::new(alloc, "answer"))?;
     let command = with_form(command, check_command(alloc))?;
@@ -195,6 +221,7 @@ fn forms<'a>(alloc: Global) -> Result<Command<'a>, Error> {
     with_form(command, screen_command(alloc))
 }
 
+/// Adds the form of one command to those of the program.
 fn with_form<'a>(
     command: Command<'a>,
     form: Result<Command<'a>, Error>,
@@ -202,11 +229,13 @@ fn with_form<'a>(
     Ok(command.subcommand(form?)?)
 }
 
+/// Makes the form of `smi check`.
 fn check_command<'a>(alloc: Global) -> Result<Command<'a>, Error> {
     let form = with_word(alloc, Command::new(alloc, "check"), "TREE")?;
     Ok(form.arg(flag(alloc, "lint"))?)
 }
 
+/// Returns the words of `smi check`.
 fn check_line<'a>(given: &ArgMatches<'a>) -> Option<CheckLine<'a>> {
     Some(CheckLine {
         tree: given.get_str("TREE")?,
@@ -214,15 +243,17 @@ fn check_line<'a>(given: &ArgMatches<'a>) -> Option<CheckLine<'a>> {
     })
 }
 
+/// Makes the form of `smi rows`.
 fn rows_command<'a>(alloc: Global) -> Result<Command<'a>, Error> {
     with_word(alloc, Command::new(alloc, "rows"), "STORE")
 }
 
-/// Returns a form with one more word that has to be there.
+/// Adds a word that has to be there to a form.
 fn with_word<'a>(alloc: Global, form: Command<'a>, name: &'a str) -> Result<Command<'a>, Error> {
     Ok(form.arg(Arg::new(alloc, name).required(true))?)
 }
 
+/// Makes the form of `smi sim`. `schedule_of` checks what goes together.
 fn sim_command<'a>(alloc: Global) -> Result<Command<'a>, Error> {
     let form = with_word(alloc, Command::new(alloc, "sim"), "TREE")?;
     let form = form.arg(Arg::new(alloc, "SCHEDULE"))?;
@@ -231,11 +262,12 @@ fn sim_command<'a>(alloc: Global) -> Result<Command<'a>, Error> {
     Ok(form.arg(flag(alloc, "settle"))?)
 }
 
-/// Returns an option that has no value.
+/// Makes an option that has no value.
 fn flag<'a>(alloc: Global, name: &'a str) -> Arg<'a> {
     Arg::new(alloc, name).long(name).action(ArgAction::SetTrue)
 }
 
+/// Returns the words of `smi sim`, or None if they name no schedule or two.
 fn sim_line<'a>(given: &ArgMatches<'a>) -> Option<SimLine<'a>> {
     Some(SimLine {
         tree: given.get_str("TREE")?,
@@ -244,6 +276,7 @@ fn sim_line<'a>(given: &ArgMatches<'a>) -> Option<SimLine<'a>> {
     })
 }
 
+/// Makes the form of `smi audit`.
 fn audit_command<'a>(alloc: Global) -> Result<Command<'a>, Error> {
     let form = with_word(alloc, Command::new(alloc, "audit"), "TREE")?;
     let files = Arg::new(alloc, "FILE").required(true).num_args(1..);
@@ -251,6 +284,7 @@ fn audit_command<'a>(alloc: Global) -> Result<Command<'a>, Error> {
     Ok(form.arg(flag(alloc, "trace"))?)
 }
 
+/// Returns the words of `smi audit`.
 fn audit_line<'a>(given: &ArgMatches<'a>) -> Option<AuditLine<'a>> {
     Some(AuditLine {
         tree: given.get_str("TREE")?,
@@ -258,7 +292,8 @@ fn audit_line<'a>(given: &ArgMatches<'a>) -> Option<AuditLine<'a>> {
     })
 }
 
-/// Returns the schedule of a simulation: a file, or both a seed and how many items it draws.
+/// Returns where the schedule of a simulation comes from: a file, or a seed and a number of items. None for anything
+/// else.
 fn schedule_of<'a>(given: &ArgMatches<'a>) -> Option<Schedule<'a>> {
     match (
         given.get_str("SCHEDULE"),
@@ -274,7 +309,7 @@ fn schedule_of<'a>(given: &ArgMatches<'a>) -> Option<Schedule<'a>> {
     }
 }
 
-/// Returns the seed that a word stands for: digits alone, at most 2^64 - 1.
+/// Returns the seed that a word says, or None if it is not digits alone or more than 2^64 - 1.
 fn seed_of(word: &str) -> Option<u64> {
     if word.as_bytes().iter().all(u8::is_ascii_digit) {
         word.parse().ok()
@@ -283,7 +318,7 @@ fn seed_of(word: &str) -> Option<u64> {
     }
 }
 
-/// Returns the words of a station that is run: its tree, its name, its store, and how long.
+/// Makes the form that `smi node` and `smi screen` have in common.
 fn station_command<'a>(alloc: Global, name: &'a str) -> Result<Command<'a>, Error> {
     let form = with_word(alloc, Command::new(alloc, name), "TREE")?;
     let form = with_word(alloc, form, "STATION")?;
@@ -294,16 +329,19 @@ fn station_command<'a>(alloc: Global, name: &'a str) -> Result<Command<'a>, Erro
     let form = form.arg(flag(alloc, "open"))?;
     let form = form.arg(flag(alloc, "service"))?;
     let form = form.arg(Arg::new(alloc, "SOURCES").long("sources"))?;
+    // A screen takes this option too, and ignores it.
     let console = Arg::new(alloc, "C").long("console");
     Ok(form.arg(console.action(ArgAction::Append))?)
 }
 
+/// Makes the form of `smi node`.
 fn node_command<'a>(alloc: Global) -> Result<Command<'a>, Error> {
     let form = station_command(alloc, "node")?;
     let form = form.arg(Arg::new(alloc, "FOLDER").long("journal"))?;
     Ok(form.arg(flag(alloc, "journal-sync"))?)
 }
 
+/// Makes the form of `smi screen`.
 fn screen_command<'a>(alloc: Global) -> Result<Command<'a>, Error> {
     let form = station_command(alloc, "screen")?;
     let form = form.arg(Arg::new(alloc, "ADDRESS").long("http").required(true))?;
@@ -329,8 +367,8 @@ fn is_like_an_address(word: &str) -> bool {
     }
 }
 
-/// Returns the place of a console that a word names. None if it reads as a host and a port and is no address: nobody
-/// who types `localhost:7001` means a file of that name.
+/// Returns the address of a console that a word names: over TCP, or the path of a socket. None if it reads as a host
+/// and a port and is no address, because nobody who types `localhost:7001` means a file of that name.
 fn console_place(word: &str) -> Option<ConsolePlace<'_>> {
     match word.parse::<SocketAddrV4>() {
         Ok(address) => Some(ConsolePlace::Address(SocketAddr::V4(address))),
@@ -339,8 +377,8 @@ fn console_place(word: &str) -> Option<ConsolePlace<'_>> {
     }
 }
 
-/// Returns the place at which a node listens that a word names. None also if other machines reach it and the node is
-/// not open to them: who reaches a console may order, and nobody is asked who he is.
+/// Returns the address at which a node listens for consoles that a word names. None also if other machines reach it and
+/// the node is not open to them (`--open`): who reaches a console may order, and nobody is asked who he is.
 fn listening_place(word: &str, is_open: bool) -> Option<ConsolePlace<'_>> {
     match console_place(word)? {
         ConsolePlace::Address(address) if !is_open && !address.ip().is_loopback() => None,
@@ -348,7 +386,8 @@ fn listening_place(word: &str, is_open: bool) -> Option<ConsolePlace<'_>> {
     }
 }
 
-/// Returns the address and the name of a screen. One that is open to other machines has a name, and no other has one.
+/// Returns the address and the name of a screen. None if the address is none, if a screen that is open to other
+/// machines (`--open`) has no name, or if one that is not has a name or an address that they reach.
 fn place_of<'a>(
     address: &str,
     name: Option<&'a str>,
@@ -362,22 +401,22 @@ fn place_of<'a>(
     }
 }
 
-/// Returns true if this is a byte of a host, or of the port after it, as browsers write both.
+/// Returns true if browsers write this byte in a host or in the port after it. They write no capital letters.
 fn is_of_host(byte: u8) -> bool {
     byte.is_ascii_lowercase() || byte.is_ascii_digit() || matches!(byte, b'.' | b'-' | b':')
 }
 
-/// Returns the origin that a word is: a scheme of the web and a host, as browsers write them. None for any other word,
-/// since no browser would ever say it.
+/// Returns the word if it is an origin as browsers write them: a scheme of the web and a host. None for any other word,
+/// because no browser would ever send it.
 fn origin_of(word: &str) -> Option<&str> {
     let (scheme, host) = word.split_once("://")?;
-    let is_one = matches!(scheme, "http" | "https")
+    let is_origin = matches!(scheme, "http" | "https")
         && !host.is_empty()
         && host.as_bytes().iter().all(|byte| is_of_host(*byte));
-    if is_one { Some(word) } else { None }
+    if is_origin { Some(word) } else { None }
 }
 
-/// Returns for how many days a history is kept, if a word says so.
+/// Returns for how many days a history is kept: `Some(None)` if no word says so, None if the word is no number of days.
 fn days_of(word: Option<&str>) -> Option<Option<u64>> {
     match word {
         Some(word) => Some(Some(number_within(1, MOST_DAYS, word.as_bytes())?)),
@@ -385,6 +424,7 @@ fn days_of(word: Option<&str>) -> Option<Option<u64>> {
     }
 }
 
+/// Returns the words of `smi screen`, or None if a value is none of its kind.
 fn screen_line<'a>(given: &ArgMatches<'a>) -> Option<ScreenLine<'a>> {
     let address = given.get_str("ADDRESS")?;
     let (http, name) = place_of(address, given.get_str("NAME"), given.get_flag("open"))?;
@@ -415,6 +455,7 @@ fn screen_line<'a>(given: &ArgMatches<'a>) -> Option<ScreenLine<'a>> {
     })
 }
 
+/// Returns the words of `smi node`, or None if a value is none of its kind.
 fn node_line<'a>(given: &ArgMatches<'a>) -> Option<NodeLine<'a>> {
     let is_open = given.get_flag("open");
     let (console, second_console) = consoles_of(given.get_strs("C"), is_open)?;
@@ -432,7 +473,8 @@ fn node_line<'a>(given: &ArgMatches<'a>) -> Option<NodeLine<'a>> {
     })
 }
 
-/// Returns from where the datagrams of a station have to come: if no word says so, from the host of their sender.
+/// Returns from where the datagrams of a station have to come: from the host of their sender if no word says so, None
+/// if the word is none of the three.
 fn sources_of(word: Option<&str>) -> Option<Sources> {
     match word {
         None | Some("host") => Some(Sources::Host),
@@ -442,7 +484,7 @@ fn sources_of(word: Option<&str>) -> Option<Sources> {
     }
 }
 
-/// Returns where a journal is written, if one is asked for. To sync none is no form.
+/// Returns how a journal is written: `Some(None)` if none is asked for, None if it is to be synced without a folder.
 fn journal_line(folder: Option<&str>, is_synced: bool) -> Option<Option<JournalOptions<'_>>> {
     match folder {
         Some(folder) => Some(Some(JournalOptions { folder, is_synced })),
@@ -451,10 +493,10 @@ fn journal_line(folder: Option<&str>, is_synced: bool) -> Option<Option<JournalO
     }
 }
 
-/// Two places at which a node may listen.
+/// The two addresses at which a node may listen for consoles.
 type Places<'a> = (Option<ConsolePlace<'a>>, Option<ConsolePlace<'a>>);
 
-/// Returns where a node listens for consoles, at two places at most: more are no form.
+/// Returns the addresses at which a node listens for consoles. None if there are more than two, or if one is none.
 fn consoles_of<'a>(words: Option<&[&'a str]>, is_open: bool) -> Option<Places<'a>> {
     match words {
         None => Some((None, None)),
@@ -467,8 +509,8 @@ fn consoles_of<'a>(words: Option<&[&'a str]>, is_open: bool) -> Option<Places<'a
     }
 }
 
-/// Returns how long a node serves: as many turns as a word says, without end if that is asked for, and without
-/// either the most turns. Both are no form.
+/// Returns how many turns a station is run: as many as a word says, `Some(None)` without end, and `MOST_TURNS` if the
+/// line says neither. None if it says both, or if the word is no such number.
 fn turns_of(word: Option<&str>, is_endless: bool) -> Option<Option<u32>> {
     match (word, is_endless) {
         (Some(word), false) => {

@@ -1,4 +1,8 @@
-//! Runs a node: reads its tree file, finds its station, and opens its store.
+//! Runs `smi node`: reads its tree file, finds its station, opens its store, and has `smi_console` run it.
+//!
+//! `commands` calls [`run_node`]. `screen` opens its store by [`open_store`] too. The checks of a store come in an
+//! order that people see: damaged files, another tree, an older store. A store that is refused is left unchanged
+//! (docs/RUNNING.md, "When a store is behind its label").
 
 ghost use Rattle.std.specs.Prelude.{IfOk};
 ghost use Rattle.std.specs.Arc.{arc_value};
@@ -21,8 +25,8 @@ use std::sync::{Arc, Wait};
 use std::thread::Threads;
 use std::time::Clock;
 
-/// Returns a tree that both threads of a node read.
-fn shared<F: Write>(
+/// Returns the tree for all threads of a node to share. If memory is refused, writes the fault and returns the status.
+fn share_tree<F: Write>(
     alloc: Global,
     tree: Tree,
     faults: &mut F,
@@ -33,7 +37,7 @@ fn shared<F: Write>(
     }
 }
 
-/// Returns how long a node serves: this many turns, or without end if none are given.
+/// Returns for how many turns a node serves: without end if `turns` is None.
 fn turns_of(turns: Option<u32>) -> Turns {
     match turns {
         Some(count) => Turns::Count(count),
@@ -41,7 +45,7 @@ fn turns_of(turns: Option<u32>) -> Turns {
     }
 }
 
-/// Returns where a console is listened for.
+/// Returns the address at which a node listens that a word of its line names. Fails if memory was refused.
 fn listen_address_of(alloc: Global, place: ConsolePlace<'_>) -> Result<ListenAddress, AllocError> {
     match place {
         ConsolePlace::Address(address) => Ok(ListenAddress::Address(address)),
@@ -49,22 +53,23 @@ fn listen_address_of(alloc: Global, place: ConsolePlace<'_>) -> Result<ListenAdd
     }
 }
 
-/// Returns where consoles are listened for.
+/// Returns all addresses at which a node listens for consoles. Fails if memory was refused.
 fn listen_addresses_of(
     alloc: Global,
     line: &NodeLine<'_>,
 ) -> Result<Vec<ListenAddress>, AllocError> {
-    let mut places = Vec::new(alloc);
+    let mut addresses = Vec::new(alloc);
     if let Some(place) = line.console {
-        places.push(listen_address_of(alloc, place)?)?;
+        addresses.push(listen_address_of(alloc, place)?)?;
     }
     if let Some(place) = line.second_console {
-        places.push(listen_address_of(alloc, place)?)?;
+        addresses.push(listen_address_of(alloc, place)?)?;
     }
-    Ok(places)
+    Ok(addresses)
 }
 
-/// Returns how a journal is written, if the line asks for one.
+/// Returns how a journal is written, or None if the line asks for none. Its files name the tree by its mark. Fails if
+/// memory was refused.
 fn journal_setup(
     alloc: Global,
     line: Option<JournalOptions<'_>>,
@@ -84,8 +89,8 @@ fn journal_setup(
     Ok(Some(Arc::new(alloc, setup)?))
 }
 
-/// Makes what a node of this line is run with, as far as its words say it, and the mark of its tree. Its station is the
-/// one that the line names.
+/// Makes what a node of this line is run with, and the mark of its tree, which is its number and its digest. The
+/// station is the one that the line names. Otherwise writes the fault and returns the exit status.
 fn setup_of<H: Files + AllocGlobal, F: Write>(
     host: &H,
     words: &Words,
@@ -95,7 +100,7 @@ fn setup_of<H: Files + AllocGlobal, F: Write>(
     ensures { IfOk result (λ s. IsStationNamed (arc_value s.0.tree) line.entry.station.now s.0.station) }
 {
     let (tree, mark) = read_marked(host, bytes_of(words, line.tree), faults)?;
-    let tree = shared(host.alloc(), tree, faults)?;
+    let tree = share_tree(host.alloc(), tree, faults)?;
     let Some(station) = tree.station_named(line.station.as_bytes()) else {
         return Err(wrong_line(faults));
     };
@@ -117,51 +122,60 @@ fn setup_of<H: Files + AllocGlobal, F: Write>(
     }
 }
 
-/// The opener of a store: a station of a tree, and whether it takes a store that is older than its label.
+/// What a store is opened for.
 #[derive(Clone, Copy)]
 pub(crate) struct Opening<'a> {
     pub(crate) tree: &'a Tree,
+    /// The number and the digest of the tree, with which the label of the store is compared.
     pub(crate) mark: &'a TreeMark,
+    /// The number of the station, from 1.
     pub(crate) station: u16,
+    /// True if a store that is older than its label, or damaged, is taken all the same.
     pub(crate) accepts_older: bool,
 }
 
-/// Tells why a store is not gone on with.
-fn refused<F: Write>(what: &str, faults: &mut F) -> Result<(), Status> {
+/// Writes why a store is refused, and fails with the exit status of that.
+fn refuse<F: Write>(what: &str, faults: &mut F) -> Result<(), Status> {
+    // If standard error can't be written, the status alone says so.
     let _ = writeln!(faults, "{what}");
     Err(Status::Refused)
 }
 
-/// Tells what it means that a store could not be opened, or not be read.
-fn told_fault<F: Write>(fault: StoreFault, faults: &mut F) -> Status {
+/// Writes the fault of a store that could not be opened or read. Returns the exit status.
+fn report_store_fault<F: Write>(fault: StoreFault, faults: &mut F) -> Status {
     match fault {
         StoreFault::Memory => no_memory(faults),
         StoreFault::Device | StoreFault::Unsure => store_fault(faults),
     }
 }
 
-/// Tells what is amiss with a store of this kinship, if anything.
+/// Checks that a store was made for this tree. Otherwise writes the fault, and fails with the exit status.
 ///
-/// A tree of another number may not, since its operators are others. One whose file says something else may, and then
-/// it is for the rows to tell whether they fit.
-fn has_kin<F: Write>(kinship: Kinship, faults: &mut F) -> Result<(), Status> {
+/// A store of a tree of another number is refused, because its operators are others. A store of a tree of this number
+/// whose file said something else is taken, with a line that says so: the opening of the station finds out whether its
+/// rows fit.
+fn check_kinship<F: Write>(kinship: Kinship, faults: &mut F) -> Result<(), Status> {
     match kinship {
         Kinship::Same => Ok(()),
         Kinship::Changed => {
+            // If standard error can't be written, the node goes on all the same.
             let _ = writeln!(faults, "store of a changed tree");
             Ok(())
         }
-        Kinship::Other => refused("store of another tree", faults),
+        Kinship::Other => refuse("store of another tree", faults),
     }
 }
 
-/// Returns the boot that a store has of a station. A row that can't be read counts as none of an older start, since
-/// the opening of the station tells its fault.
+/// Returns the boot that a store has of a station, or None if it has none.
+///
+/// A boot row that can't be read counts as the newest one, so that the store is not refused as an older one here: the
+/// opening of the station finds that fault.
 fn boot_in<S: Stable>(
     alloc: Global,
     stable: &mut S,
     opening: Opening<'_>,
 ) -> Result<Option<u32>, StoreFault> {
+    // The key of the boot row: it is of no domain and no operator.
     let key = Key {
         station: opening.station,
         domain: 0,
@@ -178,19 +192,23 @@ fn boot_in<S: Stable>(
     Ok(None)
 }
 
-/// Tells if a store is older than its label. One that is has lost what others were told since, so that its station
-/// would give away what somebody holds.
-fn has_age<F: Write>(age: StoreAge, accepts_older: bool, faults: &mut F) -> Result<(), Status> {
+/// Checks that a store is not older than its label, unless older ones are accepted. Otherwise writes the fault, and
+/// fails with the exit status.
+///
+/// An older store has lost what others were told since, so its station would give away what somebody holds. An empty
+/// one is refused always.
+fn check_age<F: Write>(age: StoreAge, accepts_older: bool, faults: &mut F) -> Result<(), Status> {
     match age {
         StoreAge::Current => Ok(()),
-        StoreAge::Empty => refused("store is empty beside its label", faults),
+        StoreAge::Empty => refuse("store is empty beside its label", faults),
         StoreAge::Older if accepts_older => Ok(()),
-        StoreAge::Older => refused("store is older than its label", faults),
+        StoreAge::Older => refuse("store is older than its label", faults),
     }
 }
 
-/// Tells if the files of a store were damaged. What was saved last may be lost then.
-fn has_health<F: Write>(
+/// Checks that the files of a store are not damaged, unless older ones are accepted. Otherwise writes the fault, and
+/// fails with the exit status. Of damaged files what was saved last may be lost.
+fn check_health<F: Write>(
     health: StoreHealth,
     accepts_older: bool,
     faults: &mut F,
@@ -198,64 +216,66 @@ fn has_health<F: Write>(
     match health {
         StoreHealth::Sound => Ok(()),
         _ if accepts_older => Ok(()),
-        StoreHealth::DamagedLog => refused("store has a damaged log", faults),
-        StoreHealth::DamagedFile => refused("store differs from its sum", faults),
+        StoreHealth::DamagedLog => refuse("store has a damaged log", faults),
+        StoreHealth::DamagedFile => refuse("store differs from its sum", faults),
     }
 }
 
-/// Tells what is amiss with the files of a store that is not open yet, if anything.
-fn may_be_opened<H: Stores, F: Write>(
+/// Checks that the files of a store are sound, before it is opened. Otherwise writes the fault, and fails with the exit
+/// status.
+fn check_files<H: Stores, F: Write>(
     host: &H,
     path: &[u8],
     opening: Opening<'_>,
     faults: &mut F,
 ) -> Result<(), Status> {
     match host.health(path) {
-        Ok(health) => has_health(health, opening.accepts_older, faults),
-        Err(fault) => Err(told_fault(fault, faults)),
+        Ok(health) => check_health(health, opening.accepts_older, faults),
+        Err(fault) => Err(report_store_fault(fault, faults)),
     }
 }
 
-/// Tells what is amiss with an open store, if anything.
-fn may_go_on<S: Stable, F: Write>(
+/// Checks that an open store is of this tree and not older than its label. Otherwise writes the fault, and fails with
+/// the exit status.
+fn check_open_store<S: Stable, F: Write>(
     alloc: Global,
     store: &mut OpenStore<S>,
     opening: Opening<'_>,
     faults: &mut F,
 ) -> Result<(), Status> {
-    has_kin(store.kinship, faults)?;
+    check_kinship(store.kinship, faults)?;
     match boot_in(alloc, &mut store.stable, opening) {
-        Ok(stored) => has_age(age(store.noted, stored), opening.accepts_older, faults),
-        Err(fault) => Err(told_fault(fault, faults)),
+        Ok(stored) => check_age(age(store.noted, stored), opening.accepts_older, faults),
+        Err(fault) => Err(report_store_fault(fault, faults)),
     }
 }
 
-/// Returns the store of a path, with its log copied into its file, or what is told of it. Nothing is saved, and one
-/// that may not be gone on with is left as it is.
-pub(crate) fn opened<H: Stores + AllocGlobal, F: Write>(
+/// Opens the store of a path, and copies its log into its file. If it can't be opened or is refused, writes the fault
+/// and fails with the exit status; a refused store is left unchanged.
+pub(crate) fn open_store<H: Stores + AllocGlobal, F: Write>(
     host: &H,
     path: &[u8],
     opening: Opening<'_>,
     faults: &mut F,
 ) -> Result<H::Open, Status> {
-    may_be_opened(host, path, opening, faults)?;
+    check_files(host, path, opening, faults)?;
     let mut store = match host.open(path, opening.mark, opening.station) {
         Ok(store) => store,
-        Err(fault) => return Err(told_fault(fault, faults)),
+        Err(fault) => return Err(report_store_fault(fault, faults)),
     };
-    if let Err(status) = may_go_on(host.alloc(), &mut store, opening, faults) {
+    if let Err(status) = check_open_store(host.alloc(), &mut store, opening, faults) {
         host.give_up(store.stable);
         return Err(status);
     }
-    // What is closed has its log copied into its file, and what is in the file is safe from the loss of the log.
+    // The close copies the log into the file, and what is in the file is safe from the loss of the log.
     host.close(store.stable);
     match host.open(path, opening.mark, opening.station) {
         Ok(store) => Ok(store.stable),
-        Err(fault) => Err(told_fault(fault, faults)),
+        Err(fault) => Err(report_store_fault(fault, faults)),
     }
 }
 
-/// Runs a node as its line says, and answers how it ended.
+/// Runs a node as its line says. Returns the exit status.
 pub fn run_node<
     H: Files + Stores + Net + Wait + Threads + Clock + AllocGlobal + Clone + Drop + Send + 'static,
     I: Read + Drop + Send + 'static,
@@ -279,7 +299,7 @@ pub fn run_node<
         station: setup.station,
         accepts_older: line.accepts_older,
     };
-    match opened(host, bytes_of(words, line.store), opening, faults) {
+    match open_store(host, bytes_of(words, line.store), opening, faults) {
         Ok(stable) => {
             let (status, stable) = run(host, &setup, stable, console, faults);
             host.close(stable);

@@ -1,9 +1,13 @@
-//! Runs a screen: reads its tree file, finds its station, and opens its store.
+//! Runs `smi screen`: reads its tree file, builds its page, opens its store, and has `smi_screen` run it.
+//!
+//! `commands` calls [`run_screen`]. The page is the constant of `page`, then the script of a style file (`style`), and
+//! then, if the screen has a console for orders, the key and the parts that give orders (`with_orders`).
+//! docs/FORMATS.md, "The screen" and "Orders from the page", says what a browser and the console see of it.
 
 ghost use Rattle.std.specs.Prelude.{◌≡◌, IfOk};
 
 use crate::line::{ConsolePlace, ScreenLine};
-use crate::node::{Opening, opened};
+use crate::node::{Opening, open_store};
 use crate::style::style_script;
 use crate::token::token_in;
 use crate::tree::{read_bytes, read_marked, read_tree};
@@ -24,8 +28,8 @@ use std::rt::Files;
 use std::sync::Wait;
 use std::time::Clock;
 
-/// Tells how a screen ended.
-fn told_end<F: Write>(ended: Ended, faults: &mut F) -> Status {
+/// Writes the fault with which a screen ended, if any. Returns the exit status.
+fn report_end<F: Write>(ended: Ended, faults: &mut F) -> Status {
     match ended {
         Ended::Turns => Status::Done,
         Ended::Stopped => stopped(faults),
@@ -38,20 +42,20 @@ fn told_end<F: Write>(ended: Ended, faults: &mut F) -> Status {
     }
 }
 
-/// How many random bytes a key is made of.
-const KEY: usize = 16;
+/// How many random bytes a key is made of: 128 bits, which nobody guesses.
+const KEY_BYTES: usize = 16;
 
-/// What a page has to show as its `Authorization` to give orders.
+/// What a page has to send as its `Authorization`, after `Bearer`, to give orders.
 #[derive(Drop)]
 enum PageKey {
-    /// These random bytes, which the page has.
-    Random([u8; KEY]),
-    /// A token, which the page has not: it asks people for it.
+    /// These random bytes, in hexadecimal, which are in the page.
+    Random([u8; KEY_BYTES]),
+    /// A token, which is not in the page: it asks people for it.
     Token(Vec<u8>),
 }
 
-/// Returns the value of the `Authorization`.
-fn key_in(alloc: Global, key: &PageKey) -> Result<Vec<u8>, AllocError> {
+/// Returns the value of the `Authorization` of this key. Fails if memory was refused.
+fn authorization_of(alloc: Global, key: &PageKey) -> Result<Vec<u8>, AllocError> {
     let mut text = Vec::from_slice(alloc, b"Bearer ")?;
     match key {
         PageKey::Random(bytes) => {
@@ -64,23 +68,23 @@ fn key_in(alloc: Global, key: &PageKey) -> Result<Vec<u8>, AllocError> {
     Ok(text)
 }
 
-/// Returns what stands of it in the page: all of a random one, and nothing of a token.
-fn key_in_page<'a>(key: &PageKey, text: &'a [u8]) -> &'a [u8] {
+/// Returns what the page has of the value: all of it if the key is random, and nothing if it is a token.
+fn key_in_page<'a>(key: &PageKey, authorization: &'a [u8]) -> &'a [u8] {
     match key {
-        PageKey::Random(_) => text,
+        PageKey::Random(_) => authorization,
         PageKey::Token(_) => &[],
     }
 }
 
-/// Returns a text whose copies share its bytes.
-fn kept(text: Vec<u8>) -> Result<Bytes, AllocError> {
+/// Returns the text as bytes that all connections share. Fails if memory was refused.
+fn shared_bytes(text: Vec<u8>) -> Result<Bytes, AllocError> {
     match Bytes::from_vec(text) {
         Ok(bytes) => Ok(bytes),
         Err(_) => Err(AllocError),
     }
 }
 
-/// Returns where a console is.
+/// Returns the address of a console that a word of the line names. Fails if memory was refused.
 fn console_address_of(
     alloc: Global,
     place: ConsolePlace<'_>,
@@ -91,41 +95,44 @@ fn console_address_of(
     }
 }
 
-/// A page that may give orders, the key that it has to show for that, its origin at a proxy, and the console that they
-/// go to.
+/// A page that may give orders, and what the screen needs to relay them.
 #[derive(Drop)]
-struct Keyed {
+struct KeyedPage {
+    /// The whole page.
     page: Bytes,
+    /// The `Authorization` that has to come with each order.
     key: Bytes,
+    /// The origin of the page at a proxy, if there is one.
     origin: Option<Bytes>,
+    /// The console to which orders go.
     console: ConsoleAddress,
 }
 
-/// Returns this page as one that may give orders by a key, under this origin too if there is one, to the console at
-/// this place.
+/// Makes a page that may give orders to this console by this key, from this origin too if there is one. Fails if memory
+/// was refused.
 fn page_with_key(
     alloc: Global,
     page: &[u8],
     key: &PageKey,
     origin: Option<&str>,
     place: ConsolePlace<'_>,
-) -> Result<Keyed, AllocError> {
-    let text = key_in(alloc, key)?;
-    let page = page_with_orders(alloc, page, key_in_page(key, text.as_slice()))?;
-    Ok(Keyed {
-        page: kept(page)?,
-        key: kept(text)?,
+) -> Result<KeyedPage, AllocError> {
+    let authorization = authorization_of(alloc, key)?;
+    let page = page_with_orders(alloc, page, key_in_page(key, authorization.as_slice()))?;
+    Ok(KeyedPage {
+        page: shared_bytes(page)?,
+        key: shared_bytes(authorization)?,
         origin: match origin {
-            Some(origin) => Some(kept(Vec::from_slice(alloc, origin.as_bytes())?)?),
+            Some(origin) => Some(shared_bytes(Vec::from_slice(alloc, origin.as_bytes())?)?),
             None => None,
         },
         console: console_address_of(alloc, place)?,
     })
 }
 
-/// Has the page of a screen give orders from now on, of operators of this tree.
-fn give(setup: &mut ScreenSetup, keyed: Keyed, tree: Tree) {
-    let Keyed {
+/// Sets this page as that of a screen, which then relays orders of operators of this tree.
+fn set_order_page(setup: &mut ScreenSetup, keyed: KeyedPage, tree: Tree) {
+    let KeyedPage {
         page,
         key,
         origin,
@@ -140,16 +147,21 @@ fn give(setup: &mut ScreenSetup, keyed: Keyed, tree: Tree) {
     });
 }
 
-/// Returns random bytes, which nobody can guess.
-fn random<H: RandomSource, F: Write>(host: &H, faults: &mut F) -> Result<[u8; KEY], Status> {
-    let mut bytes = [0u8; KEY];
+/// Returns random bytes, which nobody can guess. If the system has none, writes the fault and fails with the exit
+/// status.
+fn random_bytes<H: RandomSource, F: Write>(
+    host: &H,
+    faults: &mut F,
+) -> Result<[u8; KEY_BYTES], Status> {
+    let mut bytes = [0u8; KEY_BYTES];
     match host.fill_bytes(&mut bytes) {
         Ok(()) => Ok(bytes),
         Err(_) => Err(read_fault(faults)),
     }
 }
 
-/// Returns the key that a page has to show: the token of the file of a command line, or random bytes.
+/// Returns the key that a page has to send: the token of the file that the line names, or random bytes. If there is
+/// none, writes the fault and fails with the exit status.
 fn key_of<H: Files + RandomSource + AllocGlobal, F: Write>(
     host: &H,
     words: &Words,
@@ -161,12 +173,13 @@ fn key_of<H: Files + RandomSource + AllocGlobal, F: Write>(
             let bytes = read_bytes(host, bytes_of(words, path), faults)?;
             Ok(PageKey::Token(token_in(host.alloc(), bytes.as_slice(), faults)?))
         }
-        None => Ok(PageKey::Random(random(host, faults)?)),
+        None => Ok(PageKey::Random(random_bytes(host, faults)?)),
     }
 }
 
-/// Has the page of a screen give orders from now on, to the console at this place.
-fn with_orders<H: Files + RandomSource + AllocGlobal, F: Write>(
+/// Makes the page of a screen one that gives orders to this console. The tree is read a second time, because the screen
+/// keeps one for the orders. If that fails, writes the fault and fails with the exit status.
+fn set_up_orders<H: Files + RandomSource + AllocGlobal, F: Write>(
     host: &H,
     words: &Words,
     line: ScreenLine<'_>,
@@ -179,14 +192,15 @@ fn with_orders<H: Files + RandomSource + AllocGlobal, F: Write>(
     let page = setup.page.as_slice();
     match page_with_key(host.alloc(), page, &key, line.origin, place) {
         Ok(keyed) => {
-            give(setup, keyed, tree);
+            set_order_page(setup, keyed, tree);
             Ok(())
         }
         Err(_) => Err(no_memory(faults)),
     }
 }
 
-/// Returns the page of a screen, after which comes what its style file says of states, if it has one.
+/// Returns the page of a screen, and after it the script of its style file, if it has one. If the file is refused,
+/// writes the fault and fails with the exit status.
 fn page_of<H: Files + AllocGlobal, F: Write>(
     host: &H,
     words: &Words,
@@ -200,12 +214,12 @@ fn page_of<H: Files + AllocGlobal, F: Write>(
     let bytes = read_bytes(host, bytes_of(words, path), faults)?;
     let style = style_script(host.alloc(), tree, bytes.as_slice(), faults)?;
     match page_with_style(host.alloc(), style.as_slice()) {
-        Ok(page) => kept(page).map_err(|_| no_memory(faults)),
+        Ok(page) => shared_bytes(page).map_err(|_| no_memory(faults)),
         Err(_) => Err(no_memory(faults)),
     }
 }
 
-/// Returns the path of the file of a screen's history, if its line has one.
+/// Returns the path of the file of a screen's history, or None if its line has none. Fails if memory was refused.
 fn history_path(alloc: Global, line: ScreenLine<'_>) -> Result<Option<String>, AllocError> {
     match line.history {
         Some(path) => Ok(Some(String::from_str(alloc, path)?)),
@@ -213,7 +227,7 @@ fn history_path(alloc: Global, line: ScreenLine<'_>) -> Result<Option<String>, A
     }
 }
 
-/// Makes what the screen of a station is run with, whose page gives no orders.
+/// Makes what the screen of a station is run with. Its page gives no orders yet. Fails if memory was refused.
 fn setup_of(
     alloc: Global,
     tree: &Tree,
@@ -238,8 +252,8 @@ fn setup_of(
     })
 }
 
-/// Runs the screen of a station, with what was set up.
-fn looked<
+/// Sets up orders, if the line asks for them, opens the store, and runs the screen. Returns the exit status.
+fn open_and_run<
     H: Files
         + Stores
         + Net<Listener = TcpListener, Stream = TcpStream>
@@ -259,7 +273,7 @@ fn looked<
     faults: &mut F,
 ) -> Status {
     if let Some(place) = line.orders {
-        if let Err(status) = with_orders(host, words, line, place, setup, faults) {
+        if let Err(status) = set_up_orders(host, words, line, place, setup, faults) {
             return status;
         }
     }
@@ -269,18 +283,18 @@ fn looked<
         station: setup.station,
         accepts_older: line.accepts_older,
     };
-    match opened(host, bytes_of(words, line.store), opening, faults) {
+    match open_store(host, bytes_of(words, line.store), opening, faults) {
         Ok(stable) => {
             let (how, stable) = run(host, tree, keys, setup, stable);
             host.close(stable);
-            told_end(how, faults)
+            report_end(how, faults)
         }
         Err(status) => status,
     }
 }
 
-/// Sets up what the screen of a station is run with, and runs it.
-fn set_up<
+/// Makes the page and the setup of the screen of a station, and runs it. Returns the exit status.
+fn set_up_and_run<
     H: Files
         + Stores
         + Net<Listener = TcpListener, Stream = TcpStream>
@@ -298,6 +312,7 @@ fn set_up<
     line: ScreenLine<'_>,
     faults: &mut F,
 ) -> Status {
+    // Headers of requests are kept under these keys, so that nobody can choose names that are expensive to look up.
     let Ok(keys) = RandomState::new(host) else {
         return read_fault(faults);
     };
@@ -308,13 +323,13 @@ fn set_up<
     match setup_of(host.alloc(), tree, station, page, line) {
         Ok(setup) => {
             let mut setup = setup;
-            looked(host, words, tree, mark, keys, &mut setup, line, faults)
+            open_and_run(host, words, tree, mark, keys, &mut setup, line, faults)
         }
         Err(_) => no_memory(faults),
     }
 }
 
-/// Runs a screen as its line says, and answers how it ended.
+/// Runs a screen as its line says. Returns the exit status.
 pub fn run_screen<
     H: Files
         + Stores
@@ -330,7 +345,7 @@ pub fn run_screen<
         Err(status) => return status,
     };
     match tree.station_named(line.station.as_bytes()) {
-        Some(station) => set_up(host, words, &tree, &mark, station, line, faults),
+        Some(station) => set_up_and_run(host, words, &tree, &mark, station, line, faults),
         None => wrong_line(faults),
     }
 }

@@ -1,4 +1,7 @@
-//! Runs a simulation: reads its tree file, and reads or draws its schedule.
+//! Runs `smi sim`: reads its tree file, and reads or draws its schedule.
+//!
+//! `commands` calls [`simulate`]. What is written and which status that has is in `simulating`, whose contracts are
+//! over any reader and writer; here are the files.
 
 use crate::line::{Schedule, SimLine};
 use crate::simulating::{sim, sim_drawn, sim_drawn_settled, sim_settled};
@@ -11,7 +14,7 @@ use std::alloc::Global;
 use std::io::{BufWriter, ErrorKind, Read, Write};
 use std::rt::Files;
 
-/// Simulates as its line says, and returns the exit status.
+/// Simulates as its line says. Returns the exit status.
 pub fn simulate<H: Files + AllocGlobal, W: Write + Drop, F: Write>(
     host: &H,
     words: &Words,
@@ -25,6 +28,7 @@ pub fn simulate<H: Files + AllocGlobal, W: Write + Drop, F: Write>(
     }
 }
 
+/// Simulates a schedule in this tree. Returns the exit status.
 fn simulate_on<H: Files + AllocGlobal, W: Write + Drop, F: Write>(
     host: &H,
     words: &Words,
@@ -39,6 +43,7 @@ fn simulate_on<H: Files + AllocGlobal, W: Write + Drop, F: Write>(
     };
     match line.schedule {
         Schedule::File(path) => {
+            // After the tree's word, because both paths may read the same in text and differ in bytes.
             let path = bytes_after(words, line.tree, path);
             simulate_file(host, tree, path, line.settles, &mut writer, faults)
         }
@@ -52,6 +57,7 @@ fn simulate_on<H: Files + AllocGlobal, W: Write + Drop, F: Write>(
     }
 }
 
+/// Simulates the schedule of the file of this path. Returns the exit status.
 fn simulate_file<H: Files + AllocGlobal, W: Write, F: Write>(
     host: &H,
     tree: &Tree,
@@ -67,7 +73,8 @@ fn simulate_file<H: Files + AllocGlobal, W: Write, F: Write>(
     }
 }
 
-// Over any reader, since what `sim` says is expensive to prove of a host's files.
+/// Simulates the schedule whose lines a reader gives. Returns the exit status.
+// It is over any reader, because what `sim` promises is expensive to prove of a host's files.
 fn simulate_lines<R: Read + Drop, W: Write, F: Write>(
     alloc: Global,
     tree: &Tree,

@@ -1,3 +1,8 @@
+//! Simulates a schedule in a tree, writes its trace, and returns the exit status.
+//!
+//! `sim` calls it for `smi sim`, with a file or a seed. The world is that of `smi_world`; docs/FORMATS.md, "Schedules",
+//! "Traces" and "Drawn schedules", has the texts. The contracts tie the exit status to what was written (specs/Ending).
+
 ghost use Rattle.std.specs.Prelude.{◌≡◌, ◌⊎◌, ℕ, IfSome, take};
 ghost use Rattle.std.specs.Str.Lines.{lines};
 ghost use Rattle.std.specs.Io.KnownBytes.{Appends};
@@ -15,13 +20,14 @@ use smi_world::{Settled, Streamed, stream, stream_drawn, stream_drawn_settled, s
 use std::alloc::Global;
 use std::io::{Read, Write};
 
-/// Tells how a stream ended, and returns the exit status.
-fn streamed<F: Write>(streamed: Streamed, faults: &mut F) -> u8
+/// Writes the fault with which the stream of a schedule ended, if any. Returns the exit status.
+fn report_stream<F: Write>(streamed: Streamed, faults: &mut F) -> u8
     ensures { result ≡ status_of streamed }
 {
     match streamed {
         Streamed::Ended => Status::Done.code(),
         Streamed::Faulty(line, fault) => {
+            // If standard error can't be written, the status alone says so.
             let _ = writeln!(faults, "schedule line {line} fault {fault}");
             Status::Refused.code()
         }
@@ -31,12 +37,11 @@ fn streamed<F: Write>(streamed: Streamed, faults: &mut F) -> u8
     }
 }
 
-/// Runs a schedule: writes the text of its trace, reading a line and writing what it leaves before the next is read.
-/// Returns the exit status.
+/// Runs a schedule: reads a line, and writes what it leaves of the trace before the next line is read. Returns the exit
+/// status.
 ///
-/// It is 0 if the whole trace is written, and 1 if a line is faulty, which is told on `faults` as
-/// `schedule line L fault C`: then the trace of the lines before it is written. It is 3 if a read or a write failed,
-/// and 4 if memory ran out. (docs/FORMATS.md, "Schedules" and "Traces".)
+/// The status is 0 if the whole trace is written. It is 1 if a line is faulty: then the trace of the lines before it is
+/// written, and `schedule line L fault C` on `faults`. It is 3 if a read or a write failed, and 4 if memory ran out.
 pub fn sim<R: Read, W: Write, F: Write>(
     alloc: Global,
     tree: &Tree,
@@ -54,10 +59,10 @@ pub fn sim<R: Read, W: Write, F: Write>(
         Appends (W.contents writer.old) (W.contents writer.new) (take n (text_of tree.now (lines input)))) }
     ensures status { (result ≡ 0) ⊎ (result ≡ 1) ⊎ (result ≡ 3) ⊎ (result ≡ 4) }
 {
-    streamed(stream(alloc, tree, reader, writer), faults)
+    report_stream(stream(alloc, tree, reader, writer), faults)
 }
 
-/// Runs the schedule of this many items that a seed draws, and writes the text of its trace while it is drawn. Answers
+/// Runs the schedule of this many items (`steps`) that a seed draws, and writes its trace while it is drawn. Returns
 /// the exit status: 0 if the whole trace is written, 3 if a write failed, and 4 if memory ran out.
 pub fn sim_drawn<W: Write, F: Write>(
     alloc: Global,
@@ -82,22 +87,23 @@ pub fn sim_drawn<W: Write, F: Write>(
     }
 }
 
-/// Tells how a world was led to rest, and returns the exit status.
-fn settled<F: Write>(settled: Settled, faults: &mut F) -> u8 {
+/// Writes the fault with which a schedule ended that was to settle, if any. Returns the exit status.
+fn report_settled<F: Write>(settled: Settled, faults: &mut F) -> u8 {
     match settled {
         Settled::Rests(_) => Status::Done.code(),
         Settled::Restless => {
+            // If standard error can't be written, the status alone says so.
             let _ = writeln!(faults, "not settled");
             Status::Refused.code()
         }
-        Settled::Unsettled(how) => streamed(how, faults),
+        Settled::Unsettled(how) => report_stream(how, faults),
     }
 }
 
 /// Runs a schedule as [`sim`] does, and goes on until nothing is under way: stations that have stopped start again,
 /// stations tick, and what was sent comes. The lines that this leaves are written like any others, and at the end
-/// `settled after N items`. Returns the exit status: 1 also if nothing came to rest, which is told as
-/// `not settled`.
+/// `settled after N items`. Returns the exit status: 1 also if something is still under way after ten thousand rounds,
+/// which is written as `not settled` on `faults`.
 pub fn sim_settled<R: Read, W: Write, F: Write>(
     alloc: Global,
     tree: &Tree,
@@ -105,10 +111,10 @@ pub fn sim_settled<R: Read, W: Write, F: Write>(
     writer: &mut W,
     faults: &mut F,
 ) -> u8 {
-    settled(stream_settled(alloc, tree, reader, writer), faults)
+    report_settled(stream_settled(alloc, tree, reader, writer), faults)
 }
 
-/// Does the same with the schedule of this many items that a seed draws.
+/// Does the same as [`sim_settled`] with the schedule of this many items (`steps`) that a seed draws.
 pub fn sim_drawn_settled<W: Write, F: Write>(
     alloc: Global,
     tree: &Tree,
@@ -117,7 +123,7 @@ pub fn sim_drawn_settled<W: Write, F: Write>(
     writer: &mut W,
     faults: &mut F,
 ) -> u8 {
-    settled(
+    report_settled(
         stream_drawn_settled(alloc, tree, seed, steps, writer),
         faults,
     )

@@ -1,29 +1,33 @@
-//! The places of standard input, output and error.
+//! Opens the descriptors of standard input, output and error that were closed when the program was started.
+//!
+//! `main` of the crate `smi` calls it first of all, before anything is opened. Otherwise a socket or a store would get
+//! the descriptor 0, 1 or 2, and what the program prints would go into it.
 
-/// The places of standard input and of standard error.
+/// The descriptor of the standard input.
 const STANDARD_INPUT: i32 = 0;
 
+/// The descriptor of standard error, the last of the three.
 const STANDARD_ERROR: i32 = 2;
 
-/// What is opened in a place that is closed.
-const NOTHING: &[u8] = b"/dev/null";
+/// The file that is opened in place of a stream that is closed.
+const NULL_DEVICE: &[u8] = b"/dev/null";
 
-/// Fills those of the three places that are closed when the program is started. Otherwise a socket or a store would get
-/// one of them, and what is printed would go into it.
+/// Opens `/dev/null` at each of the three descriptors that is closed. It rests on the system's rule that an open takes
+/// the lowest free descriptor.
 ///
-/// An input is opened for writing, and an output for reading, so that the program reads and writes there as little as
-/// before.
+/// The input is opened for writing, and an output for reading, so that a read or a write there fails, as it did on the
+/// closed descriptor.
 pub fn fill_standard_places() {
     for _ in STANDARD_INPUT..=STANDARD_ERROR {
-        let place = os::open_read(NOTHING);
-        if place > STANDARD_ERROR {
-            // all three are open
-            libc::close(place);
+        let descriptor = os::open_read(NULL_DEVICE);
+        if descriptor > STANDARD_ERROR {
+            // All three are open.
+            libc::close(descriptor);
             return;
         }
-        if place == STANDARD_INPUT {
-            libc::close(place);
-            os::open_append(NOTHING);
+        if descriptor == STANDARD_INPUT {
+            libc::close(descriptor);
+            os::open_append(NULL_DEVICE);
         }
     }
 }

@@ -1,4 +1,7 @@
-//! The style file of a screen: what its page shows of each state of the tree.
+//! Reads the style file of a screen, and makes of it the script by which the page learns how to show states.
+//!
+//! `screen` puts the script after the page, which calls `setStyle` of page/model.mjs. docs/FORMATS.md, "The style of a
+//! screen", has the lines of the file, the order of its faults and what each kind means.
 
 use smi_base::MOST_BYTES_OF_A_FILE;
 use smi_commands::status::{Status, no_memory};
@@ -6,7 +9,7 @@ use smi_tree::Tree;
 use std::alloc::{AllocError, Global};
 use std::io::Write;
 
-/// What a state says of an object.
+/// What a state says of an object. The page has a colour for each kind.
 #[derive(Clone, Copy)]
 enum StateKind {
     /// It does what it is there for.
@@ -34,6 +37,7 @@ impl StateKind {
         }
     }
 
+    /// Returns the word of the kind, as the file and the page write it.
     fn name(self) -> &'static str {
         match self {
             StateKind::Ok => "ok",
@@ -45,19 +49,24 @@ impl StateKind {
     }
 }
 
-/// What a line says of a state: its number, its kind, and its colour, or "" if it has that of its kind.
+/// What a line of the file says of a state.
 #[derive(Clone, Copy)]
 struct StateStyle<'a> {
+    /// The number of the state in the tree.
     state: u16,
+    /// The name of the state.
     name: &'a str,
+    /// What the state says of an object.
     kind: StateKind,
+    /// The colour, as `#0ba860`, or an empty text if it is that of the kind.
     colour: &'a str,
 }
 
-/// Why a style is not shown. The codes are those of a tree file's faults (docs/FORMATS.md, "The style of a screen").
+/// Why a style file is refused. The codes are those of a tree file's faults (docs/FORMATS.md, "The style of a screen").
 enum StyleFault {
     /// A line, from 1, or the file itself (0), has the fault of this code.
     Line(usize, u16),
+    /// Out of memory.
     Memory,
 }
 
@@ -67,14 +76,15 @@ impl From<AllocError> for StyleFault {
     }
 }
 
-/// Returns true if a word is a colour: a hash and six digits of sixteen, letters small.
+/// Returns true if a word is a colour: `#` and six hexadecimal digits in lower case. The page takes no other form.
 fn is_colour(word: &str) -> bool {
     let digits = word.strip_prefix('#').unwrap_or("");
     let is_digit = |byte: &u8| byte.is_ascii_digit() || (b'a'..=b'f').contains(byte);
     digits.len() == 6 && digits.as_bytes().iter().all(is_digit)
 }
 
-/// Returns what a line says of a state, none if it says nothing, or the code of its first fault.
+/// Returns what a line says of a state, or None if it says nothing. Fails with the code of its first fault: 1, 2, 3 or
+/// 5.
 fn style_in<'a>(tree: &Tree, line: &'a str) -> Result<Option<StateStyle<'a>>, u16> {
     let mut words = line.split_ascii_whitespace();
     match words.next() {
@@ -107,13 +117,14 @@ fn style_in<'a>(tree: &Tree, line: &'a str) -> Result<Option<StateStyle<'a>>, u1
     }
 }
 
-/// Writes what is said of a state into a script.
+/// Adds what is said of a state to a script. It needs no escapes, because names of states have letters, digits and `_`
+/// alone. Fails if memory was refused.
 fn write_style(
     script: &mut Vec<u8>,
     style: StateStyle<'_>,
     is_first: bool,
 ) -> Result<(), AllocError> {
-    let between = if is_first { "" } else { "," };
+    let separator = if is_first { "" } else { "," };
     let StateStyle {
         name,
         kind,
@@ -121,23 +132,26 @@ fn write_style(
         ..
     } = style;
     let kind = kind.name();
-    write!(script, "{between}\"{name}\":[\"{kind}\",\"{colour}\"]").map_err(|_| AllocError)
+    write!(script, "{separator}\"{name}\":[\"{kind}\",\"{colour}\"]").map_err(|_| AllocError)
 }
 
-/// Returns the script by which a page is told what these lines say of states.
+/// Returns the script by which a page is told what these lines say of states: one whole `script` element. Fails with
+/// the first fault of the lines.
 fn script_of(alloc: Global, tree: &Tree, text: &str) -> Result<Vec<u8>, StyleFault> {
     let mut script = Vec::from_slice(alloc, b"<script>setStyle({")?;
-    let mut told: Vec<u16> = Vec::new(alloc);
+    // The states of the lines so far.
+    let mut states: Vec<u16> = Vec::new(alloc);
     for (before, line) in text.lines().enumerate() {
         let number = before.saturating_add(1);
         match style_in(tree, line) {
             Ok(None) => {}
-            Ok(Some(style)) if told.contains(&style.state) => {
+            Ok(Some(style)) if states.contains(&style.state) => {
+                // 4: an earlier line has this state.
                 return Err(StyleFault::Line(number, 4));
             }
             Ok(Some(style)) => {
-                write_style(&mut script, style, told.is_empty())?;
-                if told.push(style.state).is_err() {
+                write_style(&mut script, style, states.is_empty())?;
+                if states.push(style.state).is_err() {
                     return Err(StyleFault::Memory);
                 }
             }
@@ -148,9 +162,8 @@ fn script_of(alloc: Global, tree: &Tree, text: &str) -> Result<Vec<u8>, StyleFau
     Ok(script)
 }
 
-/// Returns the script by which a page is told what a style file of this tree says, or what is told of its first fault.
-///
-/// A file has at most as many bytes as a tree file.
+/// Returns the script by which a page is told what a style file of this tree says: one whole `script` element. If the
+/// file has a fault, writes the first one and fails with the exit status.
 pub(crate) fn style_script<F: Write>(
     alloc: Global,
     tree: &Tree,
@@ -158,6 +171,7 @@ pub(crate) fn style_script<F: Write>(
     faults: &mut F,
 ) -> Result<Vec<u8>, Status> {
     let made = if bytes.len() > MOST_BYTES_OF_A_FILE {
+        // 11: the file is too long, as a tree file of this size is.
         Err(StyleFault::Line(0, 11))
     } else {
         match String::from_utf8_lossy(alloc, bytes) {
@@ -168,6 +182,7 @@ pub(crate) fn style_script<F: Write>(
     match made {
         Ok(script) => Ok(script),
         Err(StyleFault::Line(line, code)) => {
+            // If standard error can't be written, the status alone says so.
             let _ = writeln!(faults, "style line {line} fault {code}");
             Err(Status::Refused)
         }

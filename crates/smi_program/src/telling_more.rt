@@ -1,4 +1,8 @@
-//! Tells more than one line of a fault, and ends with a status of its own if no new start mends it.
+//! Writes more than one line of a fault, for people, and chooses another exit status if no new start mends the fault.
+//!
+//! `main` of the crate `smi` calls [`tell_more`] once the command is over. docs/NUMBERS.md, "Lines on standard error"
+//! and "Statuses of the program", says what is written and what status 5 means; the units of systemd start nothing
+//! again that ended with it.
 
 ghost use Rattle.std.specs.Prelude.{◌≡◌, Bool, false};
 ghost use Rattle.smi_program.specs.Lasting as spec;
@@ -13,11 +17,12 @@ use std::io::Write;
 use std::net::Net;
 use std::rt::Files;
 
-/// The exit status of a service that would end the same way at its next start.
+/// The exit status of a service that would end the same way at its next start. docs/NUMBERS.md names it, and
+/// `RestartPreventExitStatus` of the units in examples/.
 pub const LASTING_FAULT: u8 = 5;
 
-/// Returns the exit status of a command that has ended with this one: that of a fault that lasts, if it runs as a
-/// service and ended with a fault that a new start does not mend, and else its own.
+/// Returns the exit status of a command that has ended with `status`: `LASTING_FAULT` if it runs as a service and its
+/// fault lasts, and else `status` itself.
 fn final_status(status: u8, is_service: bool, lasts: bool) -> u8
     ensures { result ≡ spec.final_status status is_service lasts }
 {
@@ -28,8 +33,8 @@ fn final_status(status: u8, is_service: bool, lasts: bool) -> u8
     }
 }
 
-/// Tells what was in the way of a command that has ended with a fault. Returns true if it would be in the way of a new
-/// start too.
+/// Writes what was in the way of a command that has ended with a fault, if that can be found. Returns true if it would
+/// be in the way of a new start too.
 fn tell_cause<H: Files + Net + AllocGlobal, F: Write + Drop>(
     host: &H,
     words: &Words,
@@ -37,7 +42,7 @@ fn tell_cause<H: Files + Net + AllocGlobal, F: Write + Drop>(
 ) -> bool {
     match cause_of(host, words, faults.text()) {
         Some(cause) => {
-            // If that can't be written there is nowhere left to say so.
+            // If standard error can't be written, there is nowhere left to say so.
             let _ = cause.tell(faults);
             cause.why.lasts()
         }
@@ -45,12 +50,12 @@ fn tell_cause<H: Files + Net + AllocGlobal, F: Write + Drop>(
     }
 }
 
-/// Tells more of what is amiss with a command that has ended with this status, if a person reads `faults`: at a
-/// terminal, or as a service's journal. Else it writes nothing, so that a program that reads `faults` finds the one
+/// Writes more of what is amiss with a command that has ended with this status, if a person reads `faults`: at a
+/// terminal, or in a service's journal. Writes nothing otherwise, so that a program that reads `faults` finds the one
 /// line alone. Returns the exit status.
 ///
-/// Of a tree file that was refused it shows the faulty line, and says what is wrong with it. Of a fault it says which
-/// path or address was in the way, and why, as far as a second look tells.
+/// If a tree file was refused, it writes the faulty line, and what is wrong with it. If the command ended with a fault,
+/// it writes which path or address was in the way, and why, as far as a second look tells.
 pub fn tell_more<H: Files + Net + AllocGlobal, F: Write + Drop>(
     host: &H,
     words: &Words,

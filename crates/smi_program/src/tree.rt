@@ -1,4 +1,7 @@
-//! The tree file of a command line.
+//! Reads the tree file that a command line names, and writes its fault if it is refused.
+//!
+//! `audit`, `commands`, `node`, `screen` and `sim` read their tree by it, and `screen` its style file too.
+//! docs/FORMATS.md, "The tree file", has the limits and the faults.
 
 use smi_base::MOST_BYTES_OF_A_FILE;
 use smi_commands::status::{Status, no_memory, read_fault};
@@ -8,10 +11,12 @@ use std::alloc::Global;
 use std::io::{self, ErrorKind, Read, Write};
 use std::rt::Files;
 
-/// How much of a tree file is read, in bytes: one more than the most that it may have.
+/// The most bytes of a tree file that are read: one more than it may have, so that a longer file is seen to be too
+/// long.
 const MOST_TREE_BYTES: u64 = MOST_BYTES_OF_A_FILE as u64 + 1;
 
-/// Returns the bytes of a tree file, or as many as show that it is too long.
+/// Returns the bytes of a tree file, or as many of them as show that it is too long. Fails if it can't be opened or
+/// read.
 pub fn tree_bytes<H: Files + AllocGlobal>(host: &H, path: &[u8]) -> io::Result<Vec<u8>> {
     let mut bytes = Vec::new(host.alloc());
     open(host, path)?
@@ -20,7 +25,8 @@ pub fn tree_bytes<H: Files + AllocGlobal>(host: &H, path: &[u8]) -> io::Result<V
     Ok(bytes)
 }
 
-/// Returns the bytes of a tree file or a style file, or what is told if they can't be had.
+/// Returns the bytes of a tree file, a style file or the file of a token, up to one more than a tree file may have. If
+/// they can't be read, writes the fault and fails with the exit status.
 pub fn read_bytes<H: Files + AllocGlobal, F: Write>(
     host: &H,
     path: &[u8],
@@ -33,7 +39,7 @@ pub fn read_bytes<H: Files + AllocGlobal, F: Write>(
     }
 }
 
-/// Returns the tree of a file, or what is told of it.
+/// Returns the tree of a file. If it can't be read or is refused, writes the fault and fails with the exit status.
 pub fn read_tree<H: Files + AllocGlobal, F: Write>(
     host: &H,
     path: &[u8],
@@ -46,7 +52,8 @@ pub fn read_tree<H: Files + AllocGlobal, F: Write>(
     }
 }
 
-/// Returns the tree of a file with its mark, or what is told of it.
+/// Returns the tree of a file with its mark: its number and the digest of what it says, which stores and journals name.
+/// If it can't be read or is refused, writes the fault and fails with the exit status.
 pub fn read_marked<H: Files + AllocGlobal, F: Write>(
     host: &H,
     path: &[u8],
@@ -65,9 +72,11 @@ pub fn read_marked<H: Files + AllocGlobal, F: Write>(
     }
 }
 
+/// Writes the fault of a tree file. Returns the exit status.
 fn tree_fault<F: Write>(fault: TreeFault, faults: &mut F) -> Status {
     match fault {
         TreeFault::Line(line, fault) => {
+            // If standard error can't be written, the status alone says so.
             let _ = writeln!(faults, "tree line {line} fault {fault}");
             Status::Refused
         }

@@ -1,4 +1,7 @@
-//! Says in words what is wrong with a tree file, for a person.
+//! Writes in words what is wrong with a tree file that was refused, for a person.
+//!
+//! `telling_more` calls [`tell_tree_fault`] after the line `tree line L fault C`. The codes are those of
+//! docs/FORMATS.md, "Faults of a tree file". No program reads the words.
 
 use crate::line::{CommandLine, line_of};
 use crate::tree::tree_bytes;
@@ -8,18 +11,17 @@ use std::alloc::Global;
 use std::io::{self, Write};
 use std::rt::Files;
 
-/// The code of a name or a number that is not well formed.
+/// The code of a name or a number that is not well formed (docs/FORMATS.md, "Faults of a tree file").
 const MALFORMED: u16 = 3;
-/// How many bytes a name has at most.
+/// The most bytes of a name. It has to agree with `MOST_BYTES_OF_A_NAME` of `smi_base`.
 const LONGEST_NAME: usize = 16;
 
-/// How many characters of a line are shown at most.
+/// The most characters of a line that are shown: as many as bytes a sound line may have.
 const LONGEST_LINE: usize = 200;
 
-/// Shows the faulty line of the tree file that the words of a command line name, and says in words what is wrong with
-/// it, if it has one.
+/// Writes the faulty line of the tree file that a command line names, and what is wrong with it in words.
 ///
-/// It reads the file a second time, and writes nothing if that fails, or if the tree is sound by now.
+/// It reads the file a second time. It writes nothing if that fails, or if the tree is sound by now.
 pub(crate) fn tell_tree_fault<H: Files + AllocGlobal, F: Write>(
     host: &H,
     words: &Words,
@@ -33,11 +35,12 @@ pub(crate) fn tell_tree_fault<H: Files + AllocGlobal, F: Write>(
         return;
     };
     if let Err(TreeFault::Line(number, code)) = Tree::read(alloc, bytes.as_slice()) {
+        // If standard error can't be written, there is nowhere left to say so.
         let _ = tell_words(alloc, bytes.as_slice(), number, code, faults);
     }
 }
 
-/// Returns the path of the tree that a command line names.
+/// Returns the path of the tree file that a command line names, or None if it names none.
 fn tree_of(line: CommandLine<'_>) -> Option<&str> {
     match line {
         CommandLine::Check(line) => Some(line.tree),
@@ -76,14 +79,14 @@ fn tell_words<F: Write>(
     }
 }
 
-/// Returns the line of this number, the first being 1, if there is one.
+/// Returns the line of this number, the first being 1. None if there is none, as for line 0, which is the file itself.
 fn line_at(text: &str, number: u64) -> Option<&str> {
-    let before = usize::try_from(number).ok()?.checked_sub(1)?;
-    text.lines().nth(before)
+    let index = usize::try_from(number).ok()?.checked_sub(1)?;
+    text.lines().nth(index)
 }
 
-/// Returns the first word that would be a name if it were not too long, if the line has a name or a number that is not
-/// well formed.
+/// Returns the first word of a line that is too long for a name, if the fault is that a name or a number is not well
+/// formed. None if there is no such word.
 fn long_word(line: &str, code: u16) -> Option<&str> {
     for word in line.split_whitespace() {
         if code == MALFORMED && is_long_name(word) {
@@ -93,7 +96,8 @@ fn long_word(line: &str, code: u16) -> Option<&str> {
     None
 }
 
-/// Returns true if a word is a name but for its length: letters, digits and `_`, and not digits alone.
+/// Returns true if a word is too long for a name and has what names have: letters, digits and `_`, and not digits
+/// alone.
 fn is_long_name(word: &str) -> bool {
     word.len() > LONGEST_NAME
         && word
@@ -102,7 +106,8 @@ fn is_long_name(word: &str) -> bool {
         && !word.bytes().all(|byte| byte.is_ascii_digit())
 }
 
-/// Writes a line as far as it may be one, and a question mark for what a terminal would not print but do.
+/// Writes the first `LONGEST_LINE` characters of a line, and a question mark for each control character, which a
+/// terminal would obey.
 fn show<F: Write>(line: &str, faults: &mut F) -> io::Result<()> {
     for letter in line.chars().take(LONGEST_LINE) {
         if letter.is_control() {
@@ -114,7 +119,7 @@ fn show<F: Write>(line: &str, faults: &mut F) -> io::Result<()> {
     Ok(())
 }
 
-/// Returns what a fault of a tree file is called (docs/NUMBERS.md).
+/// Returns the words for a fault of a tree file (docs/NUMBERS.md, "Faults of a tree file").
 fn words_of_fault(code: u16) -> &'static [u8] {
     match code {
         1 => b"no line begins with this word",
@@ -128,7 +133,7 @@ fn words_of_fault(code: u16) -> &'static [u8] {
         9 => b"a device class in place of a unit class, or the other way round",
         10 => b"a line of more than 200 bytes",
         11 => b"more than 256 KiB",
-        // 12; there is no other
+        // This is 12: there is no other.
         _ => b"a station, an operator, a state, an action or a domain is missing",
     }
 }

@@ -1,4 +1,7 @@
-//! The page, and what follows it: a style, and what gives orders.
+//! Makes the page of a screen of its parts: the constant page, the script of a style, and the parts that give orders.
+//!
+//! `screen` calls it once at its start. The parts follow the end of the page's `html` element, where browsers run their
+//! scripts all the same. specs/Page says which bytes the page has.
 
 ghost use Rattle.smi_program.specs.declared.page.TheConstants.{PAGE};
 ghost use Rattle.std.specs.Prelude.{◌≡◌, ◌++◌, IfOk};
@@ -8,7 +11,10 @@ use crate::orders::ORDERS;
 use crate::page::PAGE;
 use std::alloc::{AllocError, Global};
 
-/// Returns the script that has the key.
+/// Returns the `script` element that has the key. Fails if memory was refused.
+///
+/// `key` is put between quotes as it is, so it may have no quote, no backslash and no `<`. `screen` makes it: it is
+/// `Bearer ` and 32 hexadecimal digits, or empty if people have to type a token.
 fn script_of(alloc: Global, key: &[u8]) -> Result<Vec<u8>, AllocError>
     ensures { IfOk result (λ text. text.items ≡ script_of key.now) }
 {
@@ -18,7 +24,7 @@ fn script_of(alloc: Global, key: &[u8]) -> Result<Vec<u8>, AllocError>
     Ok(text)
 }
 
-/// Returns a page that goes on with a key and with what it has more.
+/// Returns a page, the script of its key, and the parts that give orders. Fails if memory was refused.
 fn with_orders(alloc: Global, page: &[u8], key: &[u8], orders: &[u8]) -> Result<Vec<u8>, AllocError>
     ensures { IfOk result (λ text. text.items ≡ with_orders page.now key.now orders.now) }
 {
@@ -29,16 +35,17 @@ fn with_orders(alloc: Global, page: &[u8], key: &[u8], orders: &[u8]) -> Result<
     Ok(text)
 }
 
-/// Returns a page of the screen as one that may give orders, by this key.
+/// Returns a page of the screen as one that may give orders by this key, which is `Bearer ` and 32 hexadecimal digits,
+/// or empty if people have to type a token.
 ///
-/// It fails only if memory ran out, which tests alone see.
+/// Fails only if memory ran out, which tests alone see.
 pub fn page_with_orders(alloc: Global, page: &[u8], key: &[u8]) -> Result<Vec<u8>, AllocError>
     ensures { IfOk result (λ r. r.items ≡ page_with_orders page.now key.now) }
 {
     with_orders(alloc, page, key, ORDERS.as_bytes())
 }
 
-/// Returns a text with another one after it.
+/// Returns a text with another one after it. Fails if memory was refused.
 fn joined(alloc: Global, text: &[u8], more: &[u8]) -> Result<Vec<u8>, AllocError>
     ensures { IfOk result (λ r. r.items ≡ text.now ++ more.now) }
 {
@@ -47,16 +54,17 @@ fn joined(alloc: Global, text: &[u8], more: &[u8]) -> Result<Vec<u8>, AllocError
     Ok(whole)
 }
 
-/// Returns the page, and after it the script by which it is told a style.
+/// Returns the page, and after it a style. `style` is one whole `script` element, as `style_script` of `style` makes
+/// it.
 ///
-/// It fails only if memory ran out, which tests alone see.
+/// Fails only if memory ran out, which tests alone see.
 pub fn page_with_style(alloc: Global, style: &[u8]) -> Result<Vec<u8>, AllocError>
     ensures { IfOk result (λ r. r.items ≡ page_with_style style.now) }
 {
     joined(alloc, PAGE.as_bytes(), style)
 }
 
-/// Returns the bytes of the page.
+/// Returns the bytes of the constant page, for a screen without a style file.
 pub fn page_bytes() -> &'static [u8]
     ensures { result.now ≡ PAGE.now }
 {
