@@ -1,7 +1,7 @@
 //! Decides when an endless node lets its store copy the log into the file of the store.
 //!
 //! `station_loop` asks it between two rounds of turns. The store counts the looks: it copies at the second look after a
-//! save (`LogState` of `smi_disks`), so that no copy holds up saves. docs/DECISIONS.md, "Rows and stores", says why.
+//! save (`LogState` of `smi_disks`), so that no copy holds up saves. docs/DECISIONS.md says why.
 
 use std::time::Instant;
 

@@ -2,7 +2,7 @@
 //!
 //! `setup` makes the observer, and `smi_node` calls it on the station's thread: after the row of a step is saved, and
 //! before anything of the step is sent. The order counts: a journal that came after the forwarding could lose an entry
-//! that an operator has seen (docs/DECISIONS.md, "Journals and audits").
+//! that an operator has seen (docs/DECISIONS.md).
 
 ghost use Rattle.std.specs.Prelude.{None, option_map};
 ghost use Rattle.smi_journal.specs.Noted.{handed_in};

@@ -2,8 +2,7 @@
 //!
 //! `node` calls [`build_service`] between the opening of the station and its service. The order in which things are
 //! built is that in which their faults are found: seats, the station's socket, the listeners, the threads, and last the
-//! journal. So a node whose address is taken has started, and its boot is one higher (docs/DECISIONS.md, "Seats, nodes
-//! and consoles").
+//! journal. So a node whose address is taken has started, and its boot is one higher (docs/DECISIONS.md).
 
 ghost use Rattle.std.specs.Prelude.{◌≡◌, ◌*◌, ◌++◌, ◌∷◌, [], IfOk, length, min};
 ghost use Rattle.smi_operator.specs.Sides.{IsDeskOf};

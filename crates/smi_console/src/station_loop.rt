@@ -34,7 +34,7 @@ pub enum Turns {
 
 /// How many turns an endless node serves in one round, after which it looks at its log. A turn in which nothing comes
 /// takes ten milliseconds, so a round takes a second at rest. Faults of the link are counted within a round, so 100 to
-/// 199 in a row end the node (docs/DECISIONS.md, "Rows and stores"). specs/Serving names it.
+/// 199 in a row end the node (docs/DECISIONS.md). specs/Serving names it.
 pub(crate) const TURNS_AT_ONCE: u32 = 100;
 
 /// Lets the store of a station copy its log into its file.

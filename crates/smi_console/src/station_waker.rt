@@ -1,7 +1,7 @@
 //! Wakes the station's thread when the thread of the sessions has given an order.
 //!
 //! `peers` makes the waker beside the station's link, and `console_loop` calls it. The station's thread waits at its
-//! socket alone, so the waker sends a datagram to that socket (docs/DECISIONS.md, "Seats, nodes and consoles").
+//! socket alone, so the waker sends a datagram to that socket (docs/DECISIONS.md).
 
 use std::io;
 use std::net::{Net, SocketAddr, UdpSocket};
