@@ -305,7 +305,7 @@ fn put_metric(
     tree: &Tree,
     picture: &Picture,
     metric: Metric,
-    /// The time of the picture, in milliseconds since the screen began.
+    // The time of the picture, in milliseconds since the screen began.
     now: u64,
 ) -> Result<(), AllocError>
     ensures { OnOk result (text.new.items ≡ text.old.items ++ metric_text tree.now picture.now metric now) }
