@@ -36,6 +36,7 @@ pub(crate) struct Connection {
     alloc: Global,
     /// The index of its listener, from 0.
     listener: usize,
+    /// The socket.
     stream: Stream,
     /// The sender of its lines to the journal.
     typed: TypedLines,

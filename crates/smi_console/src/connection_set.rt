@@ -59,7 +59,7 @@ struct Listener {
     is_ready: bool,
 }
 
-/// The sessions of a node.
+/// The listeners and the connections of a node, and the session of its standard input.
 #[derive(Drop)]
 pub(crate) struct ConnectionSet {
     alloc: Global,
@@ -77,7 +77,9 @@ pub(crate) struct ConnectionSet {
     next_number: u64,
     /// The sender of typed lines to the journal.
     pub(crate) typed: TypedLines,
+    /// The poll of all sockets, at which the thread of the sessions waits.
     poll: Poll,
+    /// The events of the last poll.
     events: Events<Global>,
 }
 
@@ -141,7 +143,7 @@ fn deliver_to_connection<G: StateReader + Drop>(
 }
 
 impl ConnectionSet {
-    /// Returns a set with these listeners and no connection.
+    /// Makes a set with these listeners and no connection. Fails if memory was refused.
     fn with_listeners(
         alloc: Global,
         poll: Poll,

@@ -15,7 +15,7 @@ use std::sync::{Arc, Wait};
 const MOST_WAITING: usize = 4_096;
 
 /// After how many messages the thread of the sessions is woken though nobody follows. It takes more than that in one
-/// round (`MOST_NEWS` of `console_loop`), so the first line after a silence is answered by all of them.
+/// round (`MOST_NEWS` of `console_loop`), so a line that somebody types then is answered with all of them known.
 const MOST_UNSEEN: usize = 256;
 
 /// A message of the station to the thread of the sessions.
@@ -30,7 +30,9 @@ pub(crate) enum StationNews {
 /// The fields of an [`EventQueue`].
 #[derive(Drop)]
 struct EventQueueParts<H: Drop> {
+    /// The runtime, which sends over the channel.
     rt: H,
+    /// The waker of the thread of the sessions.
     waker: Arc<ConsoleWaker, Global>,
     /// The bounded channel to the thread of the sessions.
     channel: Sender<StationNews>,

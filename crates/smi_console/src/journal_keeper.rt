@@ -43,8 +43,10 @@ pub(crate) struct KeeperChannels {
 /// The fields of a [`JournalKeeper`].
 #[derive(Drop)]
 struct JournalKeeperParts<H: Files + Drop> {
+    /// The runtime, which sends and receives over the channels.
     rt: H,
     journal: Journal<H>,
+    /// The channels to and from the thread of the sessions.
     channels: KeeperChannels,
     /// To the thread that syncs: the path of each file that the journal begins.
     begun_files: Sender<String>,

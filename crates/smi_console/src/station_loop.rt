@@ -107,6 +107,7 @@ fn served<
 /// How a station is served: the values that `StationLoop::serve` gives to the node that it makes.
 #[derive(Clone, Copy)]
 struct ServicePlan<'a, 'b> {
+    /// For how many turns it is served.
     turns: Turns,
     /// The operator of each seat, by seat. The last seat, which is for reports, is not in it.
     operators: &'a [u16],

@@ -12,8 +12,9 @@ use std::net::{Net, SocketAddr, UdpSocket};
 /// as every turn does.
 #[derive(Drop)]
 pub(crate) struct StationWaker {
+    /// The socket over which it sends, at any free port.
     socket: UdpSocket,
-    /// The address of the station's socket.
+    /// The address of the station's socket, to which it sends.
     own: SocketAddr,
 }
 

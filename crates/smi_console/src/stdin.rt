@@ -31,7 +31,9 @@ pub(crate) enum InputEnd {
 /// What the reading thread sends: line after line, and at last how the input ended.
 #[derive(Drop)]
 pub(crate) enum Input {
+    /// A line, without its line feed.
     Line(Vec<u8>),
+    /// The input has ended, and nothing follows.
     Ended(InputEnd),
 }
 

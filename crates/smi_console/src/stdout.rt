@@ -48,14 +48,18 @@ impl WriterStatus {
 #[derive(Drop)]
 pub(crate) struct StdoutSender {
     alloc: Global,
+    /// The bounded channel to the thread that writes.
     blocks: Sender<Vec<u8>>,
+    /// What that thread has done, which both share.
     status: Arc<WriterStatus, Global>,
 }
 
 /// The receiver of these blocks, for the thread that writes them.
 #[derive(Drop)]
 pub(crate) struct StdoutReceiver {
+    /// The other end of the channel.
     blocks: Receiver<Vec<u8>>,
+    /// What this thread has done, which both share.
     status: Arc<WriterStatus, Global>,
 }
 
@@ -118,7 +122,7 @@ impl StdoutSender {
         if self.status.has_failed.load(Ordering::SeqCst) {
             return Err(Unwritten::Writer);
         }
-        // No more blocks find room.
+        // The bound is there so that the loop ends: the other thread may take blocks as fast as they come.
         for _ in 0..MOST_WAITING {
             if session.output().is_empty() || !self.send_block(rt, session)? {
                 break;

@@ -25,7 +25,7 @@ use std::sync::{Arc, Wait};
 use std::thread::{Threads, spawn};
 use std::time::Clock;
 
-/// The standard streams of a node. Each goes to another thread.
+/// The standard streams of a node. Each goes to a thread of its own.
 #[derive(Drop)]
 pub struct Console<I, O, E> {
     /// Read by the thread that reads lines.
