@@ -23,7 +23,7 @@ HEAD = """//! %s It is made of the files of page/ by tools/page.py.
 /// %s
 pub const %s: &str = \""""
 # What each constant is, by its name, and the constants whose modules are there before it.
-PARTS = {"page": "The page.", "orders": "What follows the page where orders may be given."}
+PARTS = {"page": "The page.", "orders": "What follows the page if it may give orders (`with_orders`)."}
 BEFORE = {"page": [], "orders": ["page"]}
 INCLUDE = re.compile(r"^@include (\S+)\n", re.MULTILINE)
 IMPORT = re.compile(r"^import (?:\{([^}]*)\} from )?\"([^\"]+)\";\n", re.MULTILINE)

@@ -2,7 +2,7 @@
 //!
 //! `commands` runs what [`line_of`] returns. `cause_search`, `telling_more` and `tree_words` parse the same words
 //! again, once the command has ended. README.md, "The commands", has the forms; a word that is no path or name is
-//! checked here, and whatever is no form is [`CommandLine::Wrong`], without a word of why.
+//! checked here. Everything that is no form is [`CommandLine::Wrong`], without a reason.
 
 use clap::error::ErrorKind;
 use clap::{Arg, ArgAction, ArgMatches, Command, Error};
@@ -150,7 +150,8 @@ pub struct ScreenLine<'a> {
     pub token: Option<&'a str>,
     /// The path of the file that keeps what it has seen (`--history`), if there is one.
     pub history: Option<&'a str>,
-    /// For how many days what it has seen is kept (`--history-days`). None for the days that `smi_screen` chooses.
+    /// For how many days what it has seen is kept (`--history-days`). None for the days that
+    /// `smi_history` chooses.
     pub history_days: Option<u64>,
     /// How many turns it makes. None if it runs without end (`--endless`).
     pub turns: Option<u32>,

@@ -1,6 +1,6 @@
-//! What follows the page where orders may be given. It is made of the files of page/ by tools/page.py.
+//! What follows the page if it may give orders (`with_orders`). It is made of the files of page/ by tools/page.py.
 
-/// What follows the page where orders may be given.
+/// What follows the page if it may give orders (`with_orders`).
 pub const ORDERS: &str = "<style>
 #who { display: inline-flex; align-items: center; gap: .5rem; font-weight: 600; color: var(--soft) }
 #who select { font: inherit; font-weight: 700; color: var(--ink); background: var(--card); padding: .1rem .4rem }
