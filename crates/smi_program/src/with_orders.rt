@@ -1,7 +1,7 @@
 //! Makes the page of a screen of its parts: the constant page, the script of a style, and the parts that give orders.
 //!
-//! `screen` calls it once at its start. The parts follow the end of the page's `html` element, where browsers run their
-//! scripts all the same. specs/Page says which bytes the page has.
+//! `screen` calls it once at its start. The page leaves its `html` element open, so what follows it is a part of it.
+//! specs/Page says which bytes the page has.
 
 ghost use Rattle.smi_program.specs.declared.page.TheConstants.{PAGE};
 ghost use Rattle.std.specs.Prelude.{◌≡◌, ◌++◌, IfOk};
