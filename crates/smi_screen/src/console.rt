@@ -1,4 +1,9 @@
-//! The console of a node, which receives the orders from the page, and tells in which mode each child is.
+//! Connects to the console of a node, sends it the orders that the page gives, and receives what it says.
+//!
+//! `web_server` gives it a turn with the relay of `smi_web`, which makes the lines and reads the answers. The
+//! connection is one like any other at the node (docs/FORMATS.md, "Connections"), and the screen asks it for the modes
+//! of children too. No call waits. docs/FORMATS.md, "Orders from the page", says what becomes of orders if the
+//! connection ends.
 
 use mio::net::{TcpStream, UnixStream};
 use smi_session::LineSplitter;
@@ -7,22 +12,24 @@ use std::alloc::{AllocError, Global};
 use std::io::{self, ErrorKind, Read, Write};
 use std::net::{Net, SocketAddr};
 
-/// How many milliseconds pass before a connection is tried for again, and how many before one that is not made is given
-/// up.
+/// How many milliseconds lie between two tries to connect.
 const BETWEEN_TRIES: u64 = 1_000;
 
+/// How many milliseconds a connection may take to be made. After them it is given up, and the next is tried.
 const PATIENCE: u64 = 3_000;
 
-/// How many milliseconds pass before the console is asked for the modes of the children again. Nothing tells that one
-/// has changed, and an answer has a line for each child of the node.
+/// How many milliseconds lie between two questions for the modes of all children. Nothing tells that a mode has
+/// changed, and an answer has a line for each child of the node, so the screen asks seldom (docs/DECISIONS.md).
 const BETWEEN_QUESTIONS: u64 = 2_000;
 
-/// How many bytes are read at once, how many lines they have at most with the one that they end, and how many reads are
-/// made in one turn.
+/// How many bytes are read at once.
 const AT_ONCE: usize = 512;
 
+/// The most lines that one read can complete: each of its bytes may end one, and one may have been there before. The
+/// bound is there so that the loop ends; no line is left over by it.
 const LINES: usize = AT_ONCE + 1;
 
+/// The most reads in one turn, so that a console that says much holds up neither the station nor browsers.
 const READS: usize = 8;
 
 /// The address at which a node listens for consoles.
@@ -34,7 +41,7 @@ pub enum ConsoleAddress {
     Address(SocketAddr),
 }
 
-/// A connection, which may only be on its way.
+/// The socket of a connection, which may still be connecting.
 #[derive(Drop)]
 enum ConsoleStream {
     Unix(UnixStream),
@@ -42,7 +49,7 @@ enum ConsoleStream {
 }
 
 impl ConsoleStream {
-    /// Begins to connect, and does not wait for it.
+    /// Begins to connect, without waiting. Fails if the system refuses it at once.
     fn connect<R: Net>(rt: &R, place: &ConsoleAddress) -> io::Result<ConsoleStream> {
         match place {
             ConsoleAddress::Path(path) => Ok(ConsoleStream::Unix(UnixStream::connect(
@@ -55,7 +62,7 @@ impl ConsoleStream {
         }
     }
 
-    /// Returns true if it is made.
+    /// Returns true if the connection is made: then the socket has a peer.
     fn is_made(&self) -> bool {
         match self {
             ConsoleStream::Unix(stream) => stream.peer_addr().is_ok(),
@@ -63,6 +70,7 @@ impl ConsoleStream {
         }
     }
 
+    /// Reads what has come, and returns how many bytes. Fails with `WouldBlock` if nothing has come.
     fn read(&mut self, buffer: &mut [u8]) -> io::Result<usize> {
         match self {
             ConsoleStream::Unix(stream) => stream.read(buffer),
@@ -70,6 +78,7 @@ impl ConsoleStream {
         }
     }
 
+    /// Writes as much as the socket takes, and returns how many bytes. Fails with `WouldBlock` if it takes nothing now.
     fn write(&mut self, bytes: &[u8]) -> io::Result<usize> {
         match self {
             ConsoleStream::Unix(stream) => stream.write(bytes),
@@ -81,7 +90,9 @@ impl ConsoleStream {
 /// The state of a connection after a turn.
 #[derive(Clone, Copy, PartialEq, Eq)]
 enum Health {
+    /// It is made, or still connecting.
     Sound,
+    /// It has ended, failed, or was not made in time.
     Broken,
 }
 
@@ -89,29 +100,32 @@ enum Health {
 #[derive(Drop)]
 struct Connected {
     stream: ConsoleStream,
+    /// What has come of the line that is not whole yet.
     splitter: LineSplitter,
-    /// Since when it is there or on its way.
+    /// When the screen began to connect, in milliseconds since its start.
     since: u64,
-    /// When the console is asked for the modes again.
+    /// When the console is asked for the modes again, in milliseconds since the start of the screen.
     next_question: u64,
 }
 
-/// The console of a node, and the connection with it, if there is one.
+/// The console of a node, and the connection with it.
 #[derive(Drop)]
 pub struct NodeConsole {
     alloc: Global,
+    /// Where the node listens.
     place: ConsoleAddress,
+    /// The connection. None if there is none, not even one that is connecting.
     line: Option<Connected>,
-    /// When the screen tries to connect again.
+    /// The earliest time of the next try to connect, in milliseconds since the start of the screen.
     next_try: u64,
 }
 
-/// Returns true if a stream that never waits has nothing to read, or no room to write, as yet.
+/// Returns true if an error of a stream that never waits only says that it has nothing to read or takes nothing now.
 fn should_retry(kind: ErrorKind) -> bool {
     matches!(kind, ErrorKind::WouldBlock | ErrorKind::Interrupted)
 }
 
-/// Returns what a fault of a stream makes of its connection.
+/// Returns the state of a connection after an error of its stream.
 fn after_fault(error: io::Error) -> Health {
     if should_retry(error.kind()) {
         Health::Sound
@@ -121,7 +135,7 @@ fn after_fault(error: io::Error) -> Health {
 }
 
 impl Connected {
-    /// Handles the lines that have come.
+    /// Gives the relay the lines that have come. Fails if memory was refused.
     fn hear(&mut self, relay: &mut OrderRelay, now: u64) -> Result<(), AllocError> {
         for _ in 0..LINES {
             match self.splitter.next_line()? {
@@ -132,7 +146,8 @@ impl Connected {
         Ok(())
     }
 
-    /// Reads what has come, as far as nothing waits, and hears it.
+    /// Reads what has come, `READS` times at most, and gives its lines to the relay. If memory is refused, the
+    /// connection is broken, because an answer is lost.
     fn read(&mut self, relay: &mut OrderRelay, now: u64) -> Health {
         let mut block = [0u8; AT_ONCE];
         for _ in 0..READS {
@@ -149,7 +164,7 @@ impl Connected {
         Health::Sound
     }
 
-    /// Writes what is to be sent, as far as there is room.
+    /// Writes what the relay has to send, as far as the socket takes it.
     fn write(&mut self, relay: &mut OrderRelay) -> Health {
         if relay.unsent().is_empty() {
             return Health::Sound;
@@ -163,15 +178,17 @@ impl Connected {
         }
     }
 
-    /// Asks in which mode each child is, if it is time. Without memory it is asked the next time.
+    /// Has the relay ask for the mode of each child, if it is time and nothing else is to be sent.
     fn ask_modes(&mut self, relay: &mut OrderRelay, now: u64) {
         if self.next_question <= now && relay.unsent().is_empty() {
             self.next_question = now.saturating_add(BETWEEN_QUESTIONS);
+            // If memory is refused, the modes are asked for the next time.
             let _ = relay.ask_modes();
         }
     }
 
-    /// Makes the turn of a connection that may only be on its way.
+    /// Makes the turn of a connection: opens the relay once it is made, and then asks, reads and writes. Returns its
+    /// state.
     fn turn(&mut self, relay: &mut OrderRelay, now: u64) -> Health {
         if !relay.is_open() {
             if !self.stream.is_made() {
@@ -192,7 +209,7 @@ impl Connected {
 }
 
 impl NodeConsole {
-    /// Returns a console without a connection.
+    /// Makes a console at this address or path, without a connection.
     ///
     /// It has no clause: no clause sees what comes over a socket. tests/orders_test.py connects to `place`.
     pub fn new(alloc: Global, place: ConsoleAddress) -> NodeConsole {
@@ -204,7 +221,7 @@ impl NodeConsole {
         }
     }
 
-    /// Begins to connect, if it is time.
+    /// Begins to connect, if it is time. If that fails, the next try is a second later.
     fn connect<R: Net>(&mut self, rt: &R, now: u64) {
         if now < self.next_try {
             return;
@@ -220,8 +237,9 @@ impl NodeConsole {
         }
     }
 
-    /// Makes one turn: makes a connection if there is none, hears what was said over it, and sends what is to be
-    /// sent, as far as nothing waits. With a connection that breaks, what was given on it is lost.
+    /// Makes one turn: begins to connect if there is no connection, and else receives what the console said, and sends
+    /// what is to be sent, as far as nothing waits. If the connection breaks, the relay is closed, and what was given
+    /// on it is lost.
     ///
     /// It has no clause: no clause sees what goes over a socket, and what `relay` makes of it, its own clauses say.
     /// tests/orders_test.py gives orders so.

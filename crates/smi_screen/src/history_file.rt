@@ -1,4 +1,8 @@
-//! The file of a screen's history.
+//! Keeps the history of a screen in a file, so that the history outlasts the screen.
+//!
+//! `screen_parts` opens the file, and `web_server` saves into it five times a second at most. docs/FORMATS.md, "The
+//! history of a screen", has its lines, and docs/RUNNING.md, "The screen", how large it gets and what happens if it
+//! can't be written. Its lines are made and read by `smi_history`.
 
 use crate::web_server::clock_time;
 use smi_base::write_whole;
@@ -7,27 +11,29 @@ use std::fs::{self, File, Files, OpenOptions};
 use std::io::{self, ErrorKind, Write};
 use std::time::Clock;
 
-/// How many bytes the file has at least when it is written again, of the entries that are kept.
+/// The bytes from which on the file is written again, with the entries alone that are kept: 128 MiB, as
+/// docs/RUNNING.md, "The screen", says.
 const MOST_BYTES: u64 = 128 << 20;
 
-/// How long it is not written after a fault, in milliseconds.
+/// How many milliseconds after a fault the file is not written: a minute, as docs/RUNNING.md says.
 const PATIENCE: u64 = 60_000;
 
-/// The file in which a screen keeps what it has seen.
+/// The file in which a screen keeps its history.
 ///
-/// It is opened each time that it is written, some times a second at most, so one that was taken away is missed.
+/// It is opened each time that it is written, so that a file that was taken away is a fault and is made again.
 #[derive(Drop)]
 pub(crate) struct HistoryFile {
+    /// The path of the file.
     path: String,
-    /// The path of a new one, until it is whole.
+    /// The path of a new file until it is whole: `path` and `.new`.
     draft: String,
-    /// How many bytes it has; more than it may have, if all of it has to be written again.
+    /// How many bytes it has. `MOST_BYTES` after a fault, so that the next save writes all of it again.
     bytes: u64,
-    /// When it may be written, in milliseconds since the screen has started.
+    /// The earliest time of the next write, in milliseconds since the start of the screen.
     next_try: u64,
 }
 
-/// Writes a text, or says that it could not be written.
+/// Writes a whole text. Fails with `WriteZero` if it can't, because `write_whole` does not say why.
 fn write_text<F: Write>(file: &mut F, text: &[u8]) -> io::Result<()> {
     match write_whole(file, text) {
         Ok(()) => Ok(()),
@@ -35,7 +41,8 @@ fn write_text<F: Write>(file: &mut F, text: &[u8]) -> io::Result<()> {
     }
 }
 
-/// Writes the entries after the one of a number that are kept, piece by piece, and returns how many bytes these were.
+/// Writes the entries that are kept and come after the one of this number, `MOST_TOLD` at a time. Returns how many
+/// bytes these were. Fails if they can't be written, or if memory was refused.
 fn write_after<F: Write>(file: &mut F, history: &History, number: u64) -> io::Result<u64> {
     let first = number.max(history.dropped());
     let pieces = history.count().saturating_sub(first) / MOST_TOLD as u64;
@@ -49,7 +56,7 @@ fn write_after<F: Write>(file: &mut F, history: &History, number: u64) -> io::Re
     Ok(bytes)
 }
 
-/// Reads a history from the file of a path; an empty one, if there is no file.
+/// Reads a history from the file of a path, or returns an empty one if there is no file.
 ///
 /// Fails if the file is there and can't be read, or if memory ran out.
 fn read_history<R: Files + AllocGlobal>(rt: &R, path: &str) -> io::Result<History> {
@@ -61,8 +68,8 @@ fn read_history<R: Files + AllocGlobal>(rt: &R, path: &str) -> io::Result<Histor
 }
 
 impl HistoryFile {
-    /// Reads the history in the file of a path, and writes what of it is kept for this many days into a new file, which
-    /// takes its place.
+    /// Reads the history in the file of a path, and replaces the file by one with the entries that are kept for this
+    /// many days. Returns the file and the history.
     ///
     /// Fails if the file is there and can't be read, if it can't be written, or if memory ran out.
     pub(crate) fn open<R: Clock + Files + AllocGlobal>(
@@ -85,7 +92,8 @@ impl HistoryFile {
         Ok((file, history))
     }
 
-    /// Writes all entries that are kept into a new file, and puts that in place of the one before.
+    /// Writes all entries that are kept into a new file, and puts it in place of the one before. If that fails, the old
+    /// file stays unchanged, because the new one gets its name last.
     fn write_anew<R: Files>(&mut self, rt: &R, history: &mut History) -> io::Result<()> {
         let mut file = File::create(rt, self.draft.as_str())?;
         let bytes = write_after(&mut file, history, 0)?;
@@ -95,7 +103,7 @@ impl HistoryFile {
         Ok(())
     }
 
-    /// Appends what is not saved.
+    /// Appends the entries that are not saved. Fails if the file is gone.
     fn append<R: Files>(&mut self, rt: &R, history: &mut History) -> io::Result<()> {
         let mut file = OpenOptions::new()
             .append(true)
@@ -106,7 +114,7 @@ impl HistoryFile {
         Ok(())
     }
 
-    /// Saves what is not saved.
+    /// Saves the entries that are not saved: appends them, or writes the file again if it is too large or had a fault.
     fn save<R: Files>(&mut self, rt: &R, history: &mut History) -> io::Result<()> {
         if self.bytes < MOST_BYTES {
             self.append(rt, history)
@@ -115,7 +123,8 @@ impl HistoryFile {
         }
     }
 
-    /// Saves what is not saved, if it is time. After a fault all is written into a new file, in a minute.
+    /// Saves the entries that are not saved, if there are any and no fault was less than a minute ago. After a fault,
+    /// which it tells nobody, the next save writes all into a new file: pages see how much is saved.
     pub(crate) fn keep<R: Files>(&mut self, rt: &R, history: &mut History, now: u64) {
         if history.saved() == history.count() || now < self.next_try {
             return;

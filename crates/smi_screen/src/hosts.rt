@@ -1,15 +1,22 @@
-//! The hosts that a screen answers to.
+//! Says which values of `Host` a screen answers, because a page elsewhere can have a name of its own lead to the
+//! screen's address.
+//!
+//! `smi_program` asks for them and gives them to the screen; `smi_web` refuses any other with 421. docs/FORMATS.md,
+//! "The screen", names the hosts.
 
 use std::alloc::{AllocError, Global};
 use std::net::SocketAddr;
 
+/// Returns the bytes of a text. Fails if memory was refused.
 fn bytes_of(alloc: Global, text: String) -> Result<Vec<u8>, AllocError> {
     Vec::from_slice(alloc, text.as_bytes())
 }
 
-/// Returns the values of `Host` that a screen at this address answers to: the address itself; this machine's own
-/// name, if the address is its own; and a name, if one is given. Each has the port. If a proxy serves the page under an
-/// origin, its host is another, as the origin has it.
+/// Returns the values of `Host` that a screen at this address answers. These are the address, `localhost` if the
+/// address is one of this machine alone, and `name` if there is one, each with the port. If a proxy serves the page
+/// under an origin, the host of the origin is one more, as it is there.
+///
+/// Fails if memory was refused.
 ///
 /// It has no clause: the toolchain has none for an address as text. tests/screen_test.py asks for other hosts.
 pub fn hosts_of(

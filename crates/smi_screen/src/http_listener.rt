@@ -1,4 +1,8 @@
-//! The listener of a screen, and its connections.
+//! Accepts the connections of browsers, and gives each a turn, over sockets that never wait.
+//!
+//! `web_server` gives it a turn with the service that answers requests. `http_server` reads requests and writes
+//! answers; a single connection is in `http_connection`. docs/FORMATS.md, "The screen", has the bounds of a request,
+//! and docs/RUNNING.md, "The screen", says how many connections there are and how long they may stay.
 
 use crate::http_connection::HttpConnection;
 use http_server::{Config, Connection, Service};
@@ -9,13 +13,17 @@ use std::io;
 use std::marker::Model;
 use std::net::{Net, SocketAddr, TcpListener, TcpStream};
 
-/// The most connections: if one more comes, the one goes whose time is up first.
+/// The most connections. If one more comes, the one with the earliest deadline is closed. docs/RUNNING.md, "The
+/// screen", and `most_connections` of specs/HttpListener name the number.
 pub const MOST_CONNECTIONS: usize = 256;
 
-/// How many are let in at one turn.
+/// The most connections that are accepted in one turn. The others wait for the next turn, so that a flood of new ones
+/// does not hold up the station.
 const MOST_ACCEPTS: usize = 8;
 
-/// A request is a head of at most this many bytes, with a body of as many; nothing is read while an answer waits.
+/// The bounds of a request, in bytes: a head of 8 KiB and a body of 100, which is enough for an order.
+/// docs/FORMATS.md, "The screen", names both. `max_pending` 0 means that nothing is read while an answer is not
+/// written, so a client that reads nothing takes little memory. `read_size` is how many bytes are read at once.
 const CONFIG: Config = Config {
     limits: Limits {
         max_head_len: 8_192,
@@ -27,12 +35,16 @@ const CONFIG: Config = Config {
     read_size: 2_048,
 };
 
-/// A listener and its connections. Contracts see how many they are.
+/// The listener of a screen and its connections.
+///
+/// Contracts see how many connections there are.
 #[derive(Drop)]
 pub struct HttpListener {
     alloc: Global,
+    /// The keys of the tables of request headers.
     keys: RandomState,
     listener: TcpListener,
+    /// The open connections, in no order.
     connections: Vec<HttpConnection<TcpStream>>,
 }
 
@@ -51,8 +63,8 @@ impl HttpListener {
     ghost use Rattle.std.specs.Prelude.{◌≡◌, ◌≤◌, ◌<◌, IfOk};
     ghost use Rattle.smi_screen.specs.HttpListener.{most_connections};
 
-    /// Opens a listener at an address, without a connection. Headers of requests are kept under these keys, so that
-    /// nobody can choose names that are expensive to look up.
+    /// Opens a listener at an address, without a connection. Fails if the address can't be had. Headers of requests are
+    /// kept under these keys, so that nobody can choose names that are expensive to look up.
     ///
     /// No clause names `rt`, `alloc`, `keys` and `address`: no clause sees a socket. tests/screen_test.py connects to
     /// it.
@@ -82,7 +94,7 @@ impl HttpListener {
         self.connections.len()
     }
 
-    /// Returns the place of the connection whose time is up first.
+    /// Returns the index of the connection with the earliest deadline.
     fn first_due(&self) -> usize
         requires { 0 < self.now.connections }
         ensures { result < self.now.connections }
@@ -96,7 +108,7 @@ impl HttpListener {
         first
     }
 
-    /// Makes room for one more.
+    /// Makes room for one more connection: if there are `MOST_CONNECTIONS`, closes the one with the earliest deadline.
     fn make_room(&mut self)
         ensures { self.new.connections < most_connections }
     {
@@ -109,10 +121,14 @@ impl HttpListener {
         }
     }
 
+    /// Adds a new connection. Closes it at once if its socket can't be set to never wait.
+    ///
+    /// Fails if memory was refused: then the connection is closed too.
     fn add_connection(&mut self, stream: TcpStream, now: u64) -> Result<(), AllocError> {
         if stream.set_nonblocking(true).is_err() {
             return Ok(());
         }
+        // Without it an answer may come some milliseconds late, and nothing else changes.
         let _ = stream.set_nodelay(true);
         self.make_room();
         let protocol = Connection::new(self.alloc, self.keys, CONFIG);
@@ -121,14 +137,15 @@ impl HttpListener {
         Ok(())
     }
 
-    /// Accepts the connections that wait, some at a time.
+    /// Accepts the connections that wait, `MOST_ACCEPTS` at most.
     fn accept_waiting(&mut self, now: u64) {
         for _ in 0..MOST_ACCEPTS {
             match self.listener.accept() {
                 Ok((stream, _)) => {
-                    // One for whom there is no memory goes at once.
+                    // If memory is refused, this connection is closed, and the others go on.
                     let _ = self.add_connection(stream, now);
                 }
+                // No connection waits, or none can be accepted now: the next turn tries again.
                 Err(_) => return,
             }
         }

@@ -1,32 +1,33 @@
-//! A screen: an observer of a detector, and a web server of what it has seen.
+//! Runs a screen: a station that only watches and asks, and a web server of what it has seen.
 //!
-//! [`run`] is the whole of it, on one thread. Its station is opened on its store as any other; then it looks, turn
-//! after turn ([`Observer::poll`]), a new snapshot is made of the picture five times a second (`smi_web`), and
-//! the connections have their turn, none of which is waited for (`http_listener`). So a client can hold up nothing but
-//! itself, and there is neither a lock nor a second thread. What a page elsewhere could ask is nothing: [`hosts_of`]
-//! says which names of hosts are answered.
+//! `smi_program` calls [`run`], which does all of it on one thread. It opens the station on its store, as a node does.
+//! Then it makes turn after turn. In each turn the station observes ([`Observer::poll`]), and the connections of
+//! browsers have their turn, none of which is waited for (`http_listener`). Five times a second it makes a new snapshot
+//! of the picture (`web_server`, `smi_web`). So a client can hold up nothing but itself, and there is neither a lock
+//! nor a second thread. A request for another host is refused: [`hosts_of`] says which values of `Host` are answered.
 //!
-//! If a [`NodeConsole`] is named, orders may be given from the page: they wait in the service's relay (`smi_web`),
-//! and each turn sends what is to be sent of them over one connection, and hears what is said there, without waiting.
-//! The station of the screen orders nothing: the orders are those of operators of the node whose console it is.
+//! If the setup names a console ([`NodeConsole`]), orders may be given from the page. They wait in the service's relay
+//! (`smi_web`). Each turn sends what is to be sent of them over one connection, and receives what the console says,
+//! without waiting. The station of the screen orders nothing: the orders are those of operators of the node whose
+//! console it is.
 //!
-//! What is new in the picture at each turn is noted in the service's history (`smi_history`), and five times a second
-//! what is new there is appended to a file, if one is named. If the file can't be written, the screen goes on, tells
-//! how much is saved, and tries again each minute.
+//! Each turn notes what is new in the picture in the service's history (`smi_history`). Five times a second what is new
+//! there is appended to a file (`history_file`), if the setup names one. If the file can't be written, the screen goes
+//! on, tells pages how much is saved, and tries again each minute.
 //!
-//! The web server has a listener and its connections, at most `MOST_CONNECTIONS` of them. At each turn of it the
-//! connections that wait are accepted, and each one reads once, is answered, and writes once, over sockets that never
-//! wait. A connection has a time by which it has to go unless it has been answered, and a head and a body of bounded
-//! length; if one comes too many, the one whose time is up first goes. What goes out over a connection is said by the
-//! theorem of `http_server` from what the service answers.
+//! The web server has a listener and its connections, at most `MOST_CONNECTIONS` of them. Each turn accepts the
+//! connections that wait. Then each connection reads once, is answered, and writes once, over sockets that never wait.
+//! A connection has a deadline, which each answer moves on, and a head and a body of bounded length. If one comes too
+//! many, the one with the earliest deadline is closed. The theorem of `http_server` says what goes out over a
+//! connection, by what the service answers.
 //!
 //! Its station is an observer: its operator watches every object and asks about every domain, again and again, and
-//! orders nothing. [`Observer::poll`] is a turn of it. What comes over the link is carried to the station as a node
-//! carries it (`step_and_send` of `smi_node`); then the next objects are watched, the next domains asked about, and a
-//! tick is made, each if it is time ([`Pace`]). What a step hands out is sent, and what it shows and answers is
-//! noted in a picture. So a turn is a list of deeds, each a receive, a watch, a question or a tick, each from where the
-//! one before left all, and nothing else (`specs/Looking.antt`); nothing in the picture ever goes back, and no domain
-//! is ordered anything. Each receive is asked of the link, also if nothing comes.
+//! orders nothing. [`Observer::poll`] is a turn of it. The station steps with what comes over the link as that of a
+//! node does (`step_and_send` of `smi_node`). Then it watches the next objects, asks about the next domains, and makes
+//! a tick, each if it is time ([`PollSchedule`]). What a step hands out is sent, and what it shows and answers is noted
+//! in a picture (`picture_update`). So a turn is a list of deeds, each a receive, a watch, a question or a tick, each
+//! from where the one before left all, and nothing else (`specs/Looking.antt`). Nothing in the picture ever goes back,
+//! and no domain is ordered anything. Each receive asks the link, also if nothing comes.
 //!
 //! # How it is proved
 //!

@@ -1,4 +1,9 @@
-//! An observer, and its turns.
+//! Observes a detector with a station: receives, watches every object, asks about every domain, and notes all in a
+//! picture.
+//!
+//! `server` calls [`Observer::poll`] once a turn. Nothing else is done to the station of a screen. specs/Looking says
+//! what a turn may do (`Looks`), and each function here ends in a clause about it; what is noted is in
+//! `picture_update`.
 
 ghost use Rattle.std.specs.Prelude.{◌≡◌};
 ghost use Rattle.smi_screen.specs.Carrying.{NotesSo};
@@ -16,20 +21,23 @@ use smi_station_output::Out;
 use smi_view::Picture;
 use thiserror::Error;
 
-/// How many datagrams are carried in a turn at most, and how many objects watched.
+/// The most datagrams that are received in one turn, so that connections get their turn. What is left over waits in the
+/// socket.
 const MOST_HEARD: u32 = 16;
 
+/// The most objects that are watched in one turn. Each is an order of the station, which sends a datagram, so a large
+/// tree takes some turns at the start.
 const MOST_WATCHED: u32 = 16;
 
-/// The station has stopped: its last event was not carried, and no later one can be.
+/// The station has stopped: its last event had no effect, and no later one can have any.
 #[derive(Clone, Copy, Debug, PartialEq, Eq, Error)]
 #[error("the station has stopped")]
 pub struct Stopped;
 
-/// The outcome of a turn's receives.
+/// How the receives of a turn ended.
 #[derive(Clone, Copy, PartialEq, Eq)]
 pub enum ReceiveOutcome {
-    /// Something, and perhaps there is more.
+    /// The last receive found a datagram, so there may be more.
     Something,
     /// The last receive found nothing.
     Nothing,
@@ -37,18 +45,18 @@ pub enum ReceiveOutcome {
     Fault,
 }
 
-/// What an observer works with, beside its station and its link.
+/// What an observer has beside its station and its link.
 #[derive(Drop)]
 pub struct Observer {
     /// What the last step handed out.
     pub out: Out,
     /// What was seen so far.
     pub picture: Picture,
-    /// The time of a turn, in milliseconds, with which what is seen in it is noted.
+    /// The time of the turn, in milliseconds since the start of the screen. What is seen in the turn is noted with it.
     pub now: u64,
 }
 
-/// Returns whether a station took an event and did not refuse it.
+/// Returns true if a station took an event and did not refuse it.
 fn is_taken(made: &Result<Heard, StepFault>) -> bool
     ensures { result ≡ is_taken made.now }
 {
@@ -68,7 +76,7 @@ fn record_taken(picture: &mut Picture, bytes: &[u8], is_taken: bool, now: u64)
     }
 }
 
-/// Turns the result of a delivery into that of its receive.
+/// Turns the result of a delivery into that of its receive: a datagram came, or the station has stopped.
 fn something(delivered: Result<(), Stopped>) -> Result<ReceiveOutcome, Stopped>
     ensures { has_stopped result ≡ has_stopped delivered }
 {
@@ -97,12 +105,13 @@ impl Observer {
         }
     }
 
-    /// Carries an event to a station and what follows it from there: the datagrams of its step are sent, each to its
-    /// receiver, and one that the link does not take is lost; and what the step showed and answered is noted in the
-    /// picture, at this time. Returns what the step answered. A step that was not made, for which there was no memory
-    /// or no store, is as if the event had been lost.
+    /// Carries an event to a station, and does what follows from its step. Returns what the step answered.
     ///
-    /// `Stopped` comes exactly if the step answered that the station has stopped, and then nothing is sent or noted.
+    /// It sends the datagrams of the step, each to its receiver; one that the link does not take is lost. It notes what
+    /// the step showed and answered in the picture, at the time of the turn. A step that was not made, because memory
+    /// or the store failed, is as if the event had been lost.
+    ///
+    /// Fails with `Stopped` exactly if the step answered that the station has stopped. Then nothing is sent or noted.
     fn carry<S: Stable, L: DatagramLink>(
         &mut self,
         station: &mut Station<'_, S>,
@@ -122,7 +131,7 @@ impl Observer {
         Ok(made)
     }
 
-    /// Carries a datagram that has come, and notes its record if the station took it.
+    /// Carries a datagram that has come, and notes the record in it if the station took it.
     fn deliver<S: Stable, L: DatagramLink>(
         &mut self,
         station: &mut Station<'_, S>,
@@ -145,7 +154,7 @@ impl Observer {
         }
     }
 
-    /// Carries what comes over the link: a datagram, or nothing.
+    /// Asks the link once, and carries the datagram that comes, if any. Returns what came.
     fn hear<S: Stable, L: DatagramLink>(
         &mut self,
         station: &mut Station<'_, S>,
@@ -158,6 +167,7 @@ impl Observer {
             (has_stopped result) }
         ensures asks { L.receives link.old < L.receives link.new }
     {
+        // A datagram has 44 bytes. One byte more shows that a longer one is none.
         let mut buffer = [0u8; 45];
         match link.receive(&mut buffer) {
             Reception::Received(count) => {
@@ -169,7 +179,8 @@ impl Observer {
         }
     }
 
-    /// Carries what has come after the first datagram of a turn.
+    /// Carries what has come after the first datagram of a turn, up to `MOST_HEARD` with that one. Returns what came at
+    /// last.
     fn hear_more<S: Stable, L: DatagramLink>(
         &mut self,
         station: &mut Station<'_, S>,
@@ -194,7 +205,8 @@ impl Observer {
         Ok(ReceiveOutcome::Something)
     }
 
-    /// Carries what has come, up to as many datagrams as a turn has. The link is asked at least once.
+    /// Carries what has come, `MOST_HEARD` datagrams at most. The link is asked at least once. Returns what came at
+    /// last.
     fn hear_all<S: Stable, L: DatagramLink>(
         &mut self,
         station: &mut Station<'_, S>,
@@ -219,7 +231,8 @@ impl Observer {
         }
     }
 
-    /// Carries an event, whatever its step answers.
+    /// Carries an event, and ignores what its step answers, unless the station has stopped: an observer asks again
+    /// anyway.
     fn carry_whatever<S: Stable, L: DatagramLink>(
         &mut self,
         station: &mut Station<'_, S>,
@@ -238,7 +251,7 @@ impl Observer {
         }
     }
 
-    /// Watches an object, if one is to be watched.
+    /// Watches an object, if one is to be watched: orders that of the station, in the name of the operator.
     fn watch<S: Stable, L: DatagramLink>(
         &mut self,
         station: &mut Station<'_, S>,
@@ -258,7 +271,7 @@ impl Observer {
         self.carry_whatever(station, event, link)
     }
 
-    /// Asks about a domain.
+    /// Asks about a domain: orders that of the station, in the name of the operator.
     fn ask<S: Stable, L: DatagramLink>(
         &mut self,
         station: &mut Station<'_, S>,
@@ -275,7 +288,7 @@ impl Observer {
         self.carry_whatever(station, event, link)
     }
 
-    /// Lets the station send again, if it is time.
+    /// Lets the station send again what is due, if it is time.
     fn tick<S: Stable, L: DatagramLink>(
         &mut self,
         station: &mut Station<'_, S>,
@@ -295,7 +308,7 @@ impl Observer {
         }
     }
 
-    /// Watches the next objects, this many at once.
+    /// Watches the next objects, `MOST_WATCHED` at most.
     fn watch_next<S: Stable, L: DatagramLink>(
         &mut self,
         station: &mut Station<'_, S>,
@@ -340,7 +353,7 @@ impl Observer {
         Ok(())
     }
 
-    /// Does what an observer does of itself in a turn: it watches, asks, and lets its station send again.
+    /// Does what an observer does in a turn beside its receives: watches, asks, and lets its station send again.
     fn act<S: Stable, L: DatagramLink>(
         &mut self,
         station: &mut Station<'_, S>,
@@ -365,7 +378,7 @@ impl Observer {
         }
     }
 
-    /// Carries what has come, and then does what the observer does of itself.
+    /// Carries what has come, and then watches, asks and ticks. Returns what came at last.
     fn hear_and_act<S: Stable, L: DatagramLink>(
         &mut self,
         station: &mut Station<'_, S>,
@@ -388,13 +401,13 @@ impl Observer {
         }
     }
 
-    /// Makes a turn of an observer, in the name of an operator of its station: what has come over the link is carried,
-    /// up to sixteen datagrams; then the next objects are watched and the next domains asked about, and a tick is made,
-    /// each if it is time. Returns what came at last.
+    /// Makes a turn of an observer, in the name of an operator of its station. It carries what has come over the link,
+    /// sixteen datagrams at most. Then it watches the next objects, asks about the next domains, and makes a tick, each
+    /// if it is time. Returns what came at last.
     ///
-    /// It asks the link at least once and waits for it alone, and ends early only if the station has stopped. Nothing
-    /// in the picture goes back. No clause names `schedule`: it has a clock, and its own clauses say what is due at a
-    /// time.
+    /// It asks the link at least once and waits for it alone. It ends early only if the station has stopped, which is
+    /// its error. Nothing in the picture goes back. No clause names `schedule`: it has a clock, and its own clauses say
+    /// what is due at a time.
     pub fn poll<S: Stable, L: DatagramLink>(
         &mut self,
         station: &mut Station<'_, S>,

@@ -1,4 +1,8 @@
-//! Notes in the picture what an event tells.
+//! Notes in the picture of a screen what a step of its station has shown, answered and received.
+//!
+//! `observer` calls it for each step. specs/Noting says what of an event is noted, and `smi_view` that the picture
+//! never goes back by it. `now` is always the time of the turn, in milliseconds since the start: a reader tells by it
+//! how old a state is.
 
 ghost use Rattle.std.specs.Prelude.{◌≡◌};
 ghost use Rattle.std.specs.List.{flat_map};
@@ -18,7 +22,7 @@ use smi_protocol::{Answer, Order};
 use smi_station_output::Out;
 use smi_view::Picture;
 
-/// Notes a state that a step showed.
+/// Notes the state that a step showed, if it showed one.
 #[tactic(auto, using(smi_view::proofs::Notes::takes_none))]
 fn record_shown(picture: &mut Picture, shown: Option<Shown>, now: u64)
     ensures { TakesIn (shown_notes shown now) picture.old picture.new }
@@ -29,7 +33,7 @@ fn record_shown(picture: &mut Picture, shown: Option<Shown>, now: u64)
     }
 }
 
-/// Notes the record that an order was answered with, if it is a question.
+/// Notes the record that answers an order, if the order asks for one.
 #[tactic(auto, using(smi_view::proofs::Notes::takes_none))]
 fn record_asked(picture: &mut Picture, order: Order, told: &Option<Record>, now: u64)
     ensures { TakesIn (asked_notes order told.now now) picture.old picture.new }
@@ -40,6 +44,7 @@ fn record_asked(picture: &mut Picture, order: Order, told: &Option<Record>, now:
     }
 }
 
+/// Notes an answer of a step.
 fn record_answer(picture: &mut Picture, answer: &Answer, now: u64)
     ensures { TakesIn (answer_notes now answer.now) picture.old picture.new }
 {
@@ -55,7 +60,7 @@ fn record_answers(picture: &mut Picture, answers: &[Answer], now: u64)
     }
 }
 
-/// Notes all that a step showed and answered.
+/// Notes all that a step showed and answered, which is in `out`.
 #[tactic(auto, using(smi_view::proofs::Notes::takes_both))]
 pub(crate) fn record_handed(picture: &mut Picture, out: &Out, now: u64)
     ensures { TakesIn (handed_notes out.now now) picture.old picture.new }
@@ -64,7 +69,7 @@ pub(crate) fn record_handed(picture: &mut Picture, out: &Out, now: u64)
     record_answers(picture, out.answers(), now);
 }
 
-/// Notes the record that a datagram tells.
+/// Notes the record that a datagram tells. Only a `TELL` has one.
 #[tactic(auto, using(smi_view::proofs::Notes::takes_none))]
 fn record_body(picture: &mut Picture, body: &Body, now: u64)
     ensures { TakesIn (body_notes body.now now) picture.old picture.new }
@@ -81,7 +86,7 @@ fn record_body(picture: &mut Picture, body: &Body, now: u64)
     }
 }
 
-/// Notes the record in the bytes of a datagram, if they are one and it tells one.
+/// Notes the record that the bytes of a datagram tell, if they are a datagram and it tells one.
 #[tactic(auto, using(smi_view::proofs::Notes::takes_none))]
 pub(crate) fn record_datagram(picture: &mut Picture, bytes: &[u8], now: u64)
     ensures { TakesIn (datagram_notes bytes.now now) picture.old picture.new }

@@ -1,4 +1,8 @@
-//! Runs a screen.
+//! Runs a screen: opens its station, its sockets and its files, has it serve, and returns how it ended.
+//!
+//! `smi_program` calls [`run`] with an open store, writes the fault of [`Ended`], and closes the store. The order in
+//! which things are opened is that in which their faults are found: store, station's socket, history, web server.
+//! specs/Running says what a run does to the store.
 
 ghost use Rattle.std.specs.Prelude.{◌≡◌, IfErr, IfOk};
 ghost use Rattle.smi_node.specs.Carried.{StepsTo};
@@ -27,22 +31,22 @@ use std::net::{Net, SocketAddr, TcpListener, TcpStream};
 use std::sync::Wait;
 use std::time::{Clock, Instant};
 
-/// How a screen ended, or why it did not begin.
+/// How a screen ended, or why it did not start. docs/NUMBERS.md, "Lines on standard error", has the line of each fault.
 #[derive(Clone, Copy, PartialEq, Eq)]
 pub enum Ended {
     /// All its turns were made.
     Turns,
     /// Its station has stopped.
     Stopped,
-    /// There was no socket for its station, or it failed a hundred times in a row.
+    /// Its station's socket could not be opened, or the receives of a hundred turns in a row ended in a fault.
     Link,
-    /// There was no socket for its web server, or no clock.
+    /// The socket of its web server could not be opened, or the clock could not be read at the start.
     Listener,
     /// Out of memory.
     Memory,
     /// The tree has no operator at its station.
     NoOperator,
-    /// The file of its history can't be read or written.
+    /// The file of its history could not be read or written at the start.
     History,
     /// Its station was not opened on its store, or the rows not brought into their newest schema.
     Opening(OpenFault),
@@ -64,11 +68,11 @@ impl From<AllocError> for Ended {
 pub struct OrderSetup {
     /// The console of the node of the operators who order.
     pub console: ConsoleAddress,
-    /// What the page has to show with each order.
+    /// The value of `Authorization` that has to come with each order, as `Bearer 0123..`.
     pub key: Bytes,
-    /// The origin of the page at a proxy, if there is one.
+    /// The origin of the page at a proxy, as `https://screen.example`. None if there is no proxy.
     pub origin: Option<Bytes>,
-    /// The tree, a second time, because the service owns it.
+    /// A second copy of the tree, because the web service owns one.
     pub tree: Tree,
 }
 
@@ -81,22 +85,23 @@ pub struct ScreenSetup {
     pub peers: Vec<SocketAddr>,
     /// From where datagrams have to come.
     pub sources: Sources,
-    /// The address of the screen.
+    /// The address at which its web server listens.
     pub http: SocketAddr,
     /// The values of `Host` that are answered.
     pub hosts: Vec<Vec<u8>>,
+    /// The whole page, as it is served for `/`.
     pub page: Bytes,
-    /// The orders that its page may give, if it may.
+    /// What its page needs to give orders. None if it may give none.
     pub orders: Option<OrderSetup>,
-    /// The path of the file in which it keeps its history, if it keeps it.
+    /// The path of the file in which its history is kept. None if the history ends with the screen.
     pub history: Option<String>,
-    /// For how many days its history is kept, if not for the usual ones.
+    /// For how many days entries of its history are kept. None for `USUAL_DAYS` of `smi_history`.
     pub history_days: Option<u64>,
-    /// How many turns it looks, none if it looks without end.
+    /// How many turns it makes. None if it runs without end.
     pub turns: Option<u32>,
 }
 
-/// Returns why there is no socket or no file: out of memory, or this.
+/// Returns how a screen ends that can't open a socket or a file: `Memory` if memory was refused, and else `other`.
 pub(crate) fn error_of(error: io::Error, other: Ended) -> Ended
     ensures { IsOfStart other → IsOfStart result }
 {
@@ -107,7 +112,7 @@ pub(crate) fn error_of(error: io::Error, other: Ended) -> Ended
     }
 }
 
-/// Opens the listener of a screen at an address.
+/// Opens the listener of the web server at an address. Fails with `Listener`, or with `Memory` if memory was refused.
 fn listen<R: Net<Listener = TcpListener, Stream = TcpStream>>(
     rt: &R,
     alloc: Global,
@@ -122,7 +127,7 @@ fn listen<R: Net<Listener = TcpListener, Stream = TcpStream>>(
     }
 }
 
-/// Makes the picture of a screen, and its web server once its listener is open.
+/// Makes the picture of a screen, opens its history and its listener, and makes its web server of them.
 fn build_web_server<
     R: Net<Listener = TcpListener, Stream = TcpStream> + Clock + Files + AllocGlobal,
 >(
@@ -151,7 +156,8 @@ fn build_web_server<
     }
 }
 
-/// Returns what a screen works with, in a box, because each place that drops one is expensive to prove.
+/// Makes the server of a screen, whose time starts now. It is in a box, because each function that drops one itself is
+/// expensive to prove.
 fn build_server<
     R: Net<Listener = TcpListener, Stream = TcpStream> + Wait + Clock + Files + AllocGlobal,
 >(
@@ -176,7 +182,7 @@ fn build_server<
     }
 }
 
-/// Opens the link of a station, which takes its peers out of the setup.
+/// Opens the link of a station. It takes the addresses of all stations out of the setup.
 fn open_link<'a, R: Net + Clock + AllocGlobal>(
     rt: &'a R,
     setup: &mut ScreenSetup,
@@ -195,14 +201,15 @@ fn open_link<'a, R: Net + Clock + AllocGlobal>(
     }
 }
 
-/// Returns the operator in whose name a station looks: its first one, if it has any.
+/// Returns the operator in whose name a station watches and asks: its first one, or None if it has none.
 fn first_operator<S: Stable>(station: &Station<'_, S>) -> Option<u16>
     ensures { result ≡ looker_of station.now }
 {
     station.operators().first().copied()
 }
 
-/// Looks with a station that is open: for this many turns, or without end.
+/// Runs a screen with a station that is open: for as many turns as the setup says, or without end. Returns the fault
+/// that ended it, if any.
 fn look_with_station<
     S: Stable,
     R: Net<Listener = TcpListener, Stream = TcpStream> + Wait + Clock + Files + AllocGlobal,
@@ -225,7 +232,7 @@ fn look_with_station<
     server.serve(rt, tree, station, &mut link, turns)
 }
 
-/// Returns how a screen ended.
+/// Returns how a screen ended: after its turns, or by its fault.
 fn end_of(looked: Result<(), Ended>) -> Ended
     ensures { result ≡ end_of looked }
 {
@@ -235,7 +242,7 @@ fn end_of(looked: Result<(), Ended>) -> Ended
     }
 }
 
-/// Opens the station on its store, and has it look.
+/// Opens the station on its store, and runs a screen with it. Returns how the screen ended, and the store.
 fn open_and_look<
     S: Stable,
     R: Net<Listener = TcpListener, Stream = TcpStream> + Wait + Clock + Files + AllocGlobal,
@@ -253,11 +260,11 @@ fn open_and_look<
     }
 }
 
-/// Runs a screen, and gives its store back.
+/// Runs a screen. Returns how it ended, and its store.
 ///
-/// The rows of its station are brought into their newest schema, the station is opened, its own socket is, then the
-/// file of its history, if it has one, and last the socket of its web server; then it looks, for this many turns or
-/// until a fault. Headers of requests are kept under these keys. What the setup has is taken out of it as it is needed.
+/// It brings the rows of its station into their newest schema, and opens the station, the station's socket, the file of
+/// its history, if it has one, and last the socket of its web server. Then it makes turns, as many as the setup says or
+/// until a fault. Headers of requests are kept under these keys. It takes what it needs out of the setup.
 ///
 /// Nothing but the opening of the station and what it does as an observer changes the store: it looks in the name of
 /// its first operator, and orders nothing but watches and questions. That it looks over its own socket, and what its

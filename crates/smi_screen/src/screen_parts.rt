@@ -1,4 +1,8 @@
-//! The picture of a screen, the service over it, and the console for its orders.
+//! Builds the parts of a screen before its web server listens: the picture, the web service, the console for orders,
+//! and the history with its file.
+//!
+//! `screen` calls [`build_parts`] once, and makes the web server of what it returns. The service answers from the
+//! picture and the history, so a screen that starts again shows its past at once, and its picture is empty.
 
 ghost use Rattle.std.specs.Prelude.{IfErr};
 ghost use Rattle.smi_screen.specs.Ending.{IsOfStart};
@@ -16,25 +20,28 @@ use std::fs::Files;
 use std::mem::replace;
 use std::time::Clock;
 
-/// A picture, the service over it, the console that its orders go to, if there may be orders, and the file of its
-/// history, if it has one.
+/// The parts of a screen.
 #[derive(Drop)]
 pub(crate) struct ScreenParts {
+    /// What its station has seen: nothing yet.
     pub(crate) picture: Picture,
+    /// The service that answers requests.
     pub(crate) service: WebService,
+    /// The console that orders go to. None if the page may give none.
     pub(crate) console: Option<NodeConsole>,
+    /// The file of the history. None if the history ends with the screen.
     pub(crate) history_file: Option<HistoryFile>,
 }
 
-/// A history, and its file, if it has one.
+/// A history and its file, if it has one.
 #[derive(Drop)]
 struct KeptHistory {
     history: History,
     file: Option<HistoryFile>,
 }
 
-/// Returns the history of a screen, which is kept for this many days: that in the file of a path, if it has one, and
-/// else an empty one.
+/// Returns the history of a screen, whose entries are kept for this many days: the one in the file of a path, or an
+/// empty one if there is no path or no file. Fails with `History` if the file can't be read or written.
 fn kept_history<R: Clock + Files + AllocGlobal>(
     rt: &R,
     path: &Option<String>,
@@ -59,7 +66,7 @@ fn kept_history<R: Clock + Files + AllocGlobal>(
     }
 }
 
-/// Returns what the service of a page has that may give orders, and the console that they go to.
+/// Makes what the service needs to take orders, and the console that they go to. Nobody has given an order yet.
 fn order_parts(alloc: Global, orders: OrderSetup) -> (PageOrders, NodeConsole) {
     let OrderSetup {
         console,
@@ -78,7 +85,7 @@ fn order_parts(alloc: Global, orders: OrderSetup) -> (PageOrders, NodeConsole) {
     (orders, NodeConsole::new(alloc, console))
 }
 
-/// Returns the parts of a screen that has seen nothing, with what the setup has for it.
+/// Makes the parts of a screen of these values, and of the hosts and the orders of the setup, which it takes out of it.
 fn parts_with(
     alloc: Global,
     setup: &mut ScreenSetup,
@@ -108,10 +115,10 @@ fn parts_with(
     }
 }
 
-/// Returns the parts of a screen that has seen nothing but what its history tells, with what the setup has for it,
-/// which is taken out of it.
+/// Makes the parts of a screen that has seen nothing but what its history tells. It takes the page, the hosts and the
+/// orders out of the setup.
 ///
-/// It is handed out in a box, because each place that drops one is expensive to prove.
+/// They are in a box, because each function that drops them itself is expensive to prove.
 pub(crate) fn build_parts<R: Clock + Files + AllocGlobal>(
     rt: &R,
     tree: &Tree,

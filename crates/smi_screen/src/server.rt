@@ -1,4 +1,8 @@
-//! A screen without its station, and its turns.
+//! Makes the turns of a screen: its station observes, and then its web server has a turn.
+//!
+//! `screen` makes the [`ScreenServer`] and calls [`ScreenServer::serve`]. specs/Turning says that as many turns are
+//! made as are asked for, and specs/Looking what a turn does to the station and the picture: the web server changes
+//! neither.
 
 ghost use Rattle.std.specs.Prelude.{◌≡◌, ◌<◌, false, Some};
 ghost use Rattle.smi_node.specs.Carried.{StepsTo};
@@ -21,13 +25,15 @@ use std::net::Net;
 use std::sync::Wait;
 use std::time::{Clock, Instant};
 
-/// How many turns an endless screen makes at once, before it begins again with all that it has.
+/// How many turns an endless screen makes in one call of `turns`. Such a call has to end, as the prover wants; the next
+/// one goes on with all that the server has, so the number changes nothing.
 const TURNS_AT_ONCE: u32 = 1_000_000;
 
-/// How many turns in a row whose receives end in a fault end the service.
+/// How many turns in a row whose receives end in a fault of the link end the screen. docs/NUMBERS.md, "Lines on
+/// standard error" (`link fault`), and specs/Ending name it.
 const MOST_FAULTS: u32 = 100;
 
-/// Returns how many turns in a row have ended in a fault of the link, after one that ended so.
+/// Returns how many turns in a row have ended in a fault of the link, after a turn whose receives ended so.
 fn faults_after(faults: u32, came: ReceiveOutcome) -> u32
     ensures { result ≡ faults_after faults came }
 {
@@ -37,7 +43,8 @@ fn faults_after(faults: u32, came: ReceiveOutcome) -> u32
     }
 }
 
-/// Returns the time of a turn after the one at `now`, when this many milliseconds have passed since the start.
+/// Returns the time of a turn, if the one before was at `now` and this many milliseconds have passed since the start.
+/// Time never goes back.
 fn time_at(now: u64, passed: u128) -> u64
     ensures { result ≡ time_at now passed }
 {
@@ -50,19 +57,22 @@ fn time_at(now: u64, passed: u128) -> u64
 /// All that a screen has beside its station and its link.
 #[derive(Drop)]
 pub(crate) struct ScreenServer {
-    /// The operator in whose name it looks.
+    /// The operator in whose name its station watches and asks.
     operator: u16,
+    /// When it started, by the monotonic clock.
     start: Instant,
+    /// How many turns in a row have ended in a fault of the link.
     faults: u32,
+    /// When its station watches, asks and ticks.
     schedule: PollSchedule,
-    /// Its time is how many milliseconds have passed since the start.
+    /// The observer, whose time is how many milliseconds have passed since the start.
     observer: Observer,
-    // In a box, so that an owner of a server is not expensive to prove.
+    // In a box, because each function that drops a web server itself is expensive to prove.
     web_server: Box<WebServer>,
 }
 
 impl ScreenServer {
-    /// Returns a server whose time begins at a moment, with its picture and its web server.
+    /// Makes a server whose time starts at this moment, with its picture and its web server.
     pub(crate) fn new(
         operator: u16,
         start: Instant,
@@ -82,7 +92,7 @@ impl ScreenServer {
         }
     }
 
-    /// Looks at the clock. If it can't be read, no time has passed.
+    /// Sets the observer's time by the clock. If the clock can't be read, the time stays.
     fn tell_time<C: Clock>(&mut self, clock: &C)
         ensures picture { self.new.observer.picture ≡ self.old.observer.picture }
         ensures operator { self.new.operator ≡ self.old.operator }
@@ -92,7 +102,7 @@ impl ScreenServer {
         }
     }
 
-    /// Counts the turns in a row that ended in a fault of the link; an error if they are too many.
+    /// Counts the turns in a row that ended in a fault of the link. Fails if they are too many.
     fn count(&mut self, came: ReceiveOutcome) -> Result<(), Ended>
         ensures picture { self.new.observer.picture ≡ self.old.observer.picture }
         ensures operator { self.new.operator ≡ self.old.operator }
@@ -107,7 +117,8 @@ impl ScreenServer {
         Ok(())
     }
 
-    /// Has the station look, in the name of its operator.
+    /// Has the station observe, in the name of its operator. Returns how its receives ended. Fails if the station has
+    /// stopped.
     fn look<S: Stable, L: DatagramLink>(
         &mut self,
         station: &mut Station<'_, S>,
@@ -131,9 +142,8 @@ impl ScreenServer {
         }
     }
 
-    /// Does what follows a look that went well: orders go on, what is new is noted, a snapshot is made, the connections
-    /// have their turn, and
-    /// faults are counted.
+    /// Does what follows if the station has observed: gives the web server its turn, and counts the link's faults.
+    /// Fails if these are too many.
     fn go_on<R: Net + Clock + Files>(
         &mut self,
         rt: &R,
@@ -149,7 +159,8 @@ impl ScreenServer {
         self.count(came)
     }
 
-    /// Does what follows a look. The picture stays, and the station has stopped by it or not at all.
+    /// Does what follows the station's observing, or nothing if the station has stopped. It leaves the picture, and
+    /// does not stop the station.
     fn follow<R: Net + Clock + Files>(
         &mut self,
         rt: &R,
@@ -166,8 +177,8 @@ impl ScreenServer {
         }
     }
 
-    /// Makes one turn: the station looks, orders go on, a snapshot is made, and the connections have their turn. Of all
-    /// that, the station is told nothing but what the look tells it.
+    /// Makes one turn: the station observes, and then the web server has its turn, of which the station is told
+    /// nothing. Returns the fault that ends the screen, if any.
     fn turn<S: Stable, L: DatagramLink, R: Net + Clock + Files>(
         &mut self,
         rt: &R,
@@ -189,7 +200,7 @@ impl ScreenServer {
         self.follow(rt, tree, looked)
     }
 
-    /// Makes this many turns, or fewer if a fault ends them.
+    /// Makes this many turns, or fewer if a fault ends them. Returns the fault, if any.
     fn turns<S: Stable, L: DatagramLink, R: Net + Clock + Files>(
         &mut self,
         rt: &R,
@@ -219,7 +230,8 @@ impl ScreenServer {
         Ok(())
     }
 
-    /// Makes turns, this many or without end: all that becomes of the station by them is what it looks.
+    /// Makes this many turns, or turns without end. Returns the fault that ended them, if any. They do nothing to the
+    /// station but have it observe.
     pub(crate) fn serve<S: Stable, L: DatagramLink, R: Net + Wait + Clock + Files>(
         &mut self,
         rt: &R,
@@ -246,6 +258,7 @@ impl ScreenServer {
                     Err(ended) => return Err(ended),
                 }
             }
+            // The loop above never ends by itself.
             unreachable!()
         };
         self.turns(rt, tree, station, link, turns)
