@@ -1,8 +1,7 @@
-//! Reads requests of one browser's connection and writes the answers, over a stream that never waits, and knows its
-//! deadline.
+//! Reads the requests of one connection of a browser and writes the answers, without waiting, and keeps its deadline.
 //!
 //! `http_listener` has the connections and gives each a turn. `http_server` has the protocol. docs/RUNNING.md, "The
-//! screen", names both deadlines; specs/HttpConnection does too.
+//! screen", and specs/HttpConnection name both deadlines.
 
 use http_server::{Connection, Service};
 use std::io::{ErrorKind, Read, Write};

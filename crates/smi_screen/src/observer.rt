@@ -1,9 +1,8 @@
 //! Observes a detector with a station: receives, watches every object, asks about every domain, and notes all in a
 //! picture.
 //!
-//! `server` calls [`Observer::poll`] once a turn. Nothing else is done to the station of a screen. specs/Looking says
-//! what a turn may do (`Looks`), and each function here ends in a clause about it; what is noted is in
-//! `picture_update`.
+//! `server` calls [`Observer::poll`] once a turn, and does nothing else to the station of a screen. specs/Looking says
+//! what a turn may do (`Looks`). What is noted of a step is in `picture_update`.
 
 ghost use Rattle.std.specs.Prelude.{◌≡◌};
 ghost use Rattle.smi_screen.specs.Carrying.{NotesSo};
