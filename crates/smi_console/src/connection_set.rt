@@ -211,9 +211,10 @@ impl ConnectionSet {
         }
     }
 
-    /// Returns true if a session follows states or actions.
-    pub(crate) fn has_followers(&self) -> bool {
-        self.stdin.has_subscription()
+    /// Returns true if a session follows states or actions. That of the standard input counts only if it is still
+    /// served.
+    pub(crate) fn has_followers(&self, serves_stdin: bool) -> bool {
+        serves_stdin && self.stdin.has_subscription()
             || self
                 .connections
                 .iter()

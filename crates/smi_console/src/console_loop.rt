@@ -117,7 +117,8 @@ impl<G: StateReader + Drop> ConsoleLoop<G> {
     /// Tells the station's thread whether any session follows events. Returns true if events may be there for which
     /// this thread was not woken.
     fn set_followers(&self) -> bool {
-        self.waker.set_followers(self.connections.has_followers())
+        let has_followers = self.connections.has_followers(!self.is_stdin_over);
+        self.waker.set_followers(has_followers)
     }
 
     /// Reads how many datagrams the system has dropped, if the last count is old, for the answer to `counts`.
@@ -236,6 +237,8 @@ fn poll_stdin<G: StateReader + Drop, R: Wait, F: Write>(
     faults: &mut F,
 ) -> bool {
     if console_loop.is_stdin_over {
+        // Nobody reads what its session is still told.
+        console_loop.connections.stdin().consume(usize::MAX);
         return false;
     }
     let ending = match serve_stdin(rt, tree, now, console_loop, faults) {
