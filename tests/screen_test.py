@@ -75,6 +75,8 @@ def test_lines(smi, folder, worked, subtests):
             ("no address", [tree, "SCREEN", store]),
             ("two consoles", [tree, "SCREEN", store, "--http", http, "--orders", "a", "--orders", "b", "--turns", 1]),
             ("orders to nobody", [tree, "SCREEN", store, "--http", http, "--turns", 1, "--orders"]),
+            ("a token without orders", [tree, "SCREEN", store, "--http", http, "--token", "token", "--turns", 1]),
+            ("a console of its own", [tree, "SCREEN", store, "--http", http, "--console", "console", "--turns", 1]),
             ("no address of this machine", [tree, "SCREEN", store, "--http", "0.0.0.0:80", "--turns", 1]),
             ("open without a name", [tree, "SCREEN", store, "--http", "0.0.0.0:80", "--open", "--turns", 1]),
             ("a name and not open", [tree, "SCREEN", store, "--http", http, "--host", "daq", "--turns", 1]),

@@ -272,6 +272,8 @@ FAULTS = [
     ("state RUNNING", "state \x1b[2J", "tree line 4 fault 3\n    state ?[2J\n"
      "    a name or a number is not well formed\n"),
     ("domain DCS", "domain ANN", "tree line 23 fault 4\n    domain ANN A UNIT -\n    declared twice\n"),
+    ("state RUNNING", "state a_name_of_seventee", "tree line 4 fault 3\n    state a_name_of_seventee\n"
+     "    a name or a number is not well formed\n"),
     # An address and a number are no names, however long they are.
     ("station A 127.0.0.1:9001", "station a 192.168.100.200:65535", "tree line 9 fault 3\n"
      "    station a 192.168.100.200:65535\n    a name or a number is not well formed\n"),

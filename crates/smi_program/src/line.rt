@@ -329,15 +329,14 @@ fn station_command<'a>(alloc: Global, name: &'a str) -> Result<Command<'a>, Erro
     let form = form.arg(flag(alloc, "accept-older"))?;
     let form = form.arg(flag(alloc, "open"))?;
     let form = form.arg(flag(alloc, "service"))?;
-    let form = form.arg(Arg::new(alloc, "SOURCES").long("sources"))?;
-    // A screen takes this option too, and ignores it.
-    let console = Arg::new(alloc, "C").long("console");
-    Ok(form.arg(console.action(ArgAction::Append))?)
+    Ok(form.arg(Arg::new(alloc, "SOURCES").long("sources"))?)
 }
 
 /// Makes the form of `smi node`.
 fn node_command<'a>(alloc: Global) -> Result<Command<'a>, Error> {
     let form = station_command(alloc, "node")?;
+    let console = Arg::new(alloc, "C").long("console");
+    let form = form.arg(console.action(ArgAction::Append))?;
     let form = form.arg(Arg::new(alloc, "FOLDER").long("journal"))?;
     Ok(form.arg(flag(alloc, "journal-sync"))?)
 }
@@ -425,6 +424,15 @@ fn days_of(word: Option<&str>) -> Option<Option<u64>> {
     }
 }
 
+/// Returns the file of a token: `Some(None)` if no word names one, None if one is named for a screen that takes no
+/// orders.
+fn token_of(word: Option<&str>, takes_orders: bool) -> Option<Option<&str>> {
+    match word {
+        Some(_) if !takes_orders => None,
+        word => Some(word),
+    }
+}
+
 /// Returns the words of `smi screen`, or None if a value is none of its kind.
 fn screen_line<'a>(given: &ArgMatches<'a>) -> Option<ScreenLine<'a>> {
     let address = given.get_str("ADDRESS")?;
@@ -446,8 +454,8 @@ fn screen_line<'a>(given: &ArgMatches<'a>) -> Option<ScreenLine<'a>> {
         origin,
         style: given.get_str("STYLE"),
         sources: sources_of(given.get_str("SOURCES"))?,
+        token: token_of(given.get_str("TOKEN"), orders.is_some())?,
         orders,
-        token: given.get_str("TOKEN"),
         history: given.get_str("HISTORY"),
         history_days: days_of(given.get_str("DAYS"))?,
         turns: turns_of(given.get_str("T"), given.get_flag("endless"))?,

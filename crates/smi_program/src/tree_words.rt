@@ -96,14 +96,19 @@ fn long_word(line: &str, code: u16) -> Option<&str> {
     None
 }
 
-/// Returns true if a word is too long for a name and has what names have: letters, digits and `_`, and not digits
-/// alone.
+/// Returns true if a name may have this byte: a capital letter, a digit, or `_`.
+fn is_of_name(byte: u8) -> bool {
+    byte.is_ascii_uppercase() || byte.is_ascii_digit() || byte == b'_'
+}
+
+/// Returns true if a word would be a name if it were not too long: it begins with a letter.
 fn is_long_name(word: &str) -> bool {
     word.len() > LONGEST_NAME
+        && word.bytes().all(is_of_name)
         && word
             .bytes()
-            .all(|byte| byte.is_ascii_alphanumeric() || byte == b'_')
-        && !word.bytes().all(|byte| byte.is_ascii_digit())
+            .next()
+            .is_some_and(|byte| byte.is_ascii_uppercase())
 }
 
 /// Writes the first `LONGEST_LINE` characters of a line, and a question mark for each control character, which a
