@@ -1,7 +1,7 @@
 //! Writes the doubts about a lawful tree file, a line each: what is lawful and surely not meant. `check.rt` calls
 //! `tell` for `smi check --lint`. Which doubts there are, their order and their words are in docs/FORMATS.md, "Doubts",
-//! and `tests/doubts.py` judges them a second time. Each kind of doubt is decided in a file of its own, as
-//! `idle_actions.rt`.
+//! and `tests/doubts.py` judges them a second time. The kinds of doubts are decided in files beside this
+//! one, as `idle_actions.rt`.
 
 ghost use Rattle.std.specs.Prelude.{◌≤◌};
 ghost use Rattle.smi_tree.specs.Lookups.{state_count, action_count, domain_count, device_count};
@@ -15,11 +15,12 @@ use crate::unreached_states::is_unreached;
 use smi_tree::Tree;
 use std::io::{self, Write};
 
-/// Writes a line for each doubt about a tree: of stations, of actions and rules by domain, of states, of devices, each
-/// by number. A line that can't be written is left out, because doubts do not change the status.
+/// Writes a line for each doubt about a tree: of stations, of actions by domain, of rules by domain, of states, of
+/// devices, each by number. A line that can't be written is left out or cut short, because doubts do not change the
+/// status.
 ///
-/// It has no clause: it writes words, which tests/trees.py compares. If there is a doubt, the functions that find it
-/// say so by clauses.
+/// It has no clause: it writes words, which tests/trees.py compares. The functions that look for a
+/// doubt say by clauses whether there is one.
 pub fn tell<W: Write>(tree: &Tree, writer: &mut W) {
     for station in 1..=tree.station_count() {
         if let Some(other) = twin(tree, station) {

@@ -48,7 +48,7 @@ fn write_hex<W: Write>(writer: &mut W, losses: &mut Losses, bytes: &[u8]) -> Res
     Ok(())
 }
 
-/// Writes the line of a row: its key and its bytes.
+/// Writes the line of a row: its key, each number with a space after it, and its bytes.
 fn write_row<W: Write>(
     writer: &mut W,
     losses: &mut Losses,
@@ -92,7 +92,8 @@ fn write_listing<W: Write>(
     losses.flush(writer)
 }
 
-/// Writes what a store answered, and returns how the listing ended.
+/// Writes what a store answered, and returns how the listing ended. All is written through `losses`, which counts the
+/// writes that failed: clauses say by that count that `WriteFault` is returned only if a write failed.
 fn list<W: Write>(
     loaded: Result<Vec<SavedRow>, StoreFault>,
     writer: &mut W,
@@ -100,7 +101,7 @@ fn list<W: Write>(
 ) -> Listed
     ensures done { IfOk loaded (λ rows. result ≡ Listed.Done
         → Appends (W.contents writer.old) (W.contents writer.new) (rows_text rows.items)) }
-    // Whatever else comes of rows is that a write failed.
+    // If there are rows, nothing but a failed write keeps them from being written.
     ensures unwritten { OnOk loaded (result ≢ Listed.Done
         → (result ≡ Listed.WriteFault) × (losses.old.count < losses.new.count)) }
     ensures fault { IfErr loaded (λ fault. result ≡ listed_fault fault) }
@@ -122,8 +123,9 @@ pub fn rows<S: Stable, W: Write>(stable: &mut S, writer: &mut W) -> Listed
         (list : List Saved) × IsListing (S.rows stable.old) list
         × Appends (W.contents writer.old) (W.contents writer.new) (rows_text list) }
     ensures failed { result ≡ Listed.StoreFault → S.failures stable.old < S.failures stable.new }
-    // A store that failed is told as nothing else.
+    // A listing of a store that failed ends in no other way.
     ensures calm { result ≢ Listed.StoreFault → S.failures stable.new ≡ S.failures stable.old }
 {
+    // Only the clauses of `list` speak of this count.
     list(stable.load(), writer, &mut Losses::new())
 }

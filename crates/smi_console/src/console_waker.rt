@@ -1,7 +1,7 @@
 //! Wakes the thread of the sessions from the other threads of a node.
 //!
-//! The station's thread wakes it (`event_queue`), the thread that reads the standard input (`stdin`), and the one that
-//! writes the standard output (`stdout`). All share one [`ConsoleWaker`], which `setup` makes.
+//! Three threads wake it: the station's (`event_queue`), the one that reads the standard input (`stdin`), and the one
+//! that writes the standard output (`stdout`). All share one [`ConsoleWaker`], which `setup` makes.
 
 use mio::Waker;
 use std::sync::atomic::{AtomicBool, Ordering};

@@ -1,7 +1,8 @@
 //! Opens and reads files by paths that need not be text.
 //!
 //! A path of a command line may have any bytes, and the toolchain's files have paths of text. Everything that the
-//! program reads by such a path comes through here: tree files, schedules, stores and what lies beside them.
+//! program reads by such a path comes through here: tree files, schedules, stores that are listed, and what lies beside
+//! a store.
 
 ghost use Rattle.std.specs.Prelude.{◌≡◌, ◌++◌, IfOk};
 
@@ -33,8 +34,9 @@ fn open_again<H: Files + AllocGlobal>(host: &H, descriptor: i32) -> io::Result<H
     fs::open(host, name.as_str())
 }
 
-/// Returns the bytes of a file, or none if there is no file. What is no regular file is not opened, if its path is
-/// text; at another path the system has to be asked by opening it.
+/// Returns the bytes of a file, or None if there is no file. At a path of text, what is no regular file is not opened:
+/// the error is `Unsupported`. At any other path it is opened and read whatever it is, because the toolchain tells the
+/// kind of a file by a path of text alone.
 ///
 /// It has no clause: what is at a path, the system alone says. tests/paths_test.py has paths of all kinds.
 pub fn bytes_of<H: Files + AllocGlobal>(host: &H, path: &[u8]) -> io::Result<Option<Vec<u8>>> {

@@ -33,9 +33,9 @@ pub struct StoreLabel {
 /// How old the rows of a store are by its label.
 #[derive(Clone, Copy, PartialEq, Eq)]
 pub enum StoreAge {
-    /// They are of the start that the label names, or of a later one, or it names none.
+    /// They are of the start that the label names, or of a later one, or it names none of their station.
     Current,
-    /// The label names a start, and no row is of any.
+    /// The label names a start of their station, which has no boot row.
     Empty,
     /// They are of a start before the one that the label names.
     Older,

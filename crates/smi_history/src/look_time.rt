@@ -1,6 +1,6 @@
-//! The time of a look at a picture, by the screen's own count and by the clock, and how both convert. `history.rt` and
-//! `crates/smi_web/src/order_notes.rt` decide by it what is new. If `is_new` took a moment twice or not at all, an
-//! entry would be noted twice or be lost.
+//! The time of a look at a picture, by the screen's own count and by the clock, and how a count is told as a time.
+//! `history.rt` and `crates/smi_web/src/order_notes.rt` decide by it what is new. If `is_new` took a moment twice or
+//! not at all, an entry would be noted twice or be lost.
 
 ghost use Rattle.std.specs.Prelude.{◌≡◌};
 ghost use Rattle.smi_history.specs.LookTime as spec;

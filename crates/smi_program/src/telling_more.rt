@@ -55,7 +55,8 @@ fn tell_cause<H: Files + Net + AllocGlobal, F: Write + Drop>(
 /// line alone. Returns the exit status.
 ///
 /// If a tree file was refused, it writes the faulty line, and what is wrong with it. If the command ended with a fault,
-/// it writes which path or address was in the way, and why, as far as a second look tells.
+/// it writes which path or address was in the way, and why, as far as a second look tells. `words` are the words of the
+/// command line, and `faults` is standard error, of which it knows the last line.
 pub fn tell_more<H: Files + Net + AllocGlobal, F: Write + Drop>(
     host: &H,
     words: &Words,
@@ -66,6 +67,7 @@ pub fn tell_more<H: Files + Net + AllocGlobal, F: Write + Drop>(
     ensures silent { spec.has_more status ≡ false → faults.new ≡ faults.old }
     ensures ended { (is_service : Bool) × (lasts : Bool) × result ≡ spec.final_status status is_service lasts }
 {
+    // The line is the command line, of which a node or a screen may be a service.
     let is_service = line_of(host.alloc(), words.texts.as_slice()).is_service();
     let is_read = is_terminal || is_service;
     if is_read && status == Status::Refused.code() {

@@ -13,8 +13,9 @@ use smi_tree::{Fault, Name, Tree, two_names};
 use std::alloc::{AllocError, Global};
 use std::marker::Model;
 
-/// The most acknowledged alarms that are kept. All devices, domains and stations of a tree together are fewer: 768. The
-/// number is in docs/FORMATS.md, "Orders from the page", and in `specs/Acknowledgements` too.
+/// The most acknowledged alarms that are kept. All devices, domains and stations of a tree together are fewer: 768. But
+/// each operator's acknowledgement counts, so the list can fill. Then the oldest is dropped. The number is in
+/// docs/FORMATS.md, "Orders from the page", and in `specs/Acknowledgements` too.
 pub const MOST_ACKNOWLEDGED: usize = 1_024;
 
 /// What can be in alarm, by its word in the line.
