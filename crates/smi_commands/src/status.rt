@@ -1,5 +1,5 @@
-//! The exit statuses of the program and its short lines on standard error. Every command uses them, in `smi_program`,
-//! and nodes and screens in `smi_console` and `smi_screen`. docs/NUMBERS.md, "Statuses of the program" and "Lines on
+//! The exit statuses of the program and its short lines on standard error. Every command and screen uses them, in
+//! `smi_program`, and nodes in `smi_console`. docs/NUMBERS.md, "Statuses of the program" and "Lines on
 //! standard error", fixes both: scripts read them. Status 5, of `--service`, is made of 3 in `smi_program`.
 
 ghost use Rattle.std.specs.Prelude.{◌≡◌};
@@ -13,9 +13,9 @@ pub enum Status {
     Done,
     /// An input is refused: 1.
     Refused,
-    /// The command line is none of the forms: 2.
+    /// The command line is none of the forms, or names a station that the tree does not have: 2.
     WrongLine,
-    /// A read, a write or a store failed: 3.
+    /// A read, a write, a store or a socket failed, or a station can't be started or has stopped: 3.
     Fault,
     /// Memory was refused: 4.
     NoMemory,
@@ -66,7 +66,7 @@ pub fn write_fault<F: Write>(faults: &mut F) -> Status
     Status::Fault
 }
 
-/// Writes `store fault`, which says that a store could not be opened or read, and returns its status.
+/// Writes `store fault`, which says that a store could not be opened, read or written, and returns its status.
 ///
 /// No clause names `faults`: what is written there is words, which tests see.
 pub fn store_fault<F: Write>(faults: &mut F) -> Status

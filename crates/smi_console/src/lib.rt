@@ -4,18 +4,20 @@
 //! `smi_program` calls [`run`]. It brings the store's rows into their newest schema and opens the station. Then it
 //! makes a board with one glance, seven seats for each operator and one for reports, the station's socket, the
 //! listeners and the threads, in this order (`node`, `setup`), and writes the first fault (`faults`, `exit`). The link
-//! reaches the stations at their addresses (`peers`). Until the threads are started it is on the station's side, with
-//! the desk (`node_io`). Then the node serves the station in its own thread (`station_loop`), as a `Node` of
-//! `smi_node`, which counts what it does, before an observer. What that does to the store is the contract of [`run`].
+//! reaches the stations at their addresses (`peers`). `node_io` has the link and the desk until the threads are
+//! started. Then the node serves the station in its own thread (`station_loop`), as a `Node` of `smi_node`, which
+//! counts what it does, before an observer; between two rounds of turns it has the store copy its log, if that is due
+//! (`log_timer`). What that does to the store is the contract of [`run`].
 //!
 //! Three threads, which nobody joins, have the consoles (`threads`). One reads the lines of the standard input
 //! (`stdin`), and one writes the standard output (`stdout`). The third has the sessions (`console_loop`, over
 //! `smi_session`): those of the standard input and of the connections (`connection_set`, `connection`) that come in at
 //! the listeners (`listener`). It waits for all of them at once, for none of them alone. The thread that serves the
-//! station wakes it (`console_waker`) after a turn that has brought an answer, a state or an action: the node's
-//! observer forwards them (`node_observer`, `event_forwarder`, `event_queue`). After it has given orders, it sends a
-//! datagram to the node's own socket (`station_waker`). The datagram is empty and every station refuses it, but a
-//! station at rest then looks at its seats at once.
+//! station wakes it (`console_waker`) after a turn that has brought an answer, or a state or an action that a session
+//! follows: the node's observer forwards them (`node_observer`, `event_forwarder`, `event_queue`). After the third
+//! thread has given orders, it sends a datagram to the node's own socket (`station_waker`). The datagram is empty and
+//! every station refuses it, but a station at rest then looks at its seats at once. For `counts` it reads how many
+//! datagrams the system has dropped at that socket (`socket_drops`).
 //!
 //! A node that has a journal notes each step in it, before anything of the step is sent (`node_observer`,
 //! `journal_keeper`), and the lines that were typed before the step (`typed_lines`). A fourth thread syncs its files

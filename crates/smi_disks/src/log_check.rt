@@ -1,4 +1,7 @@
-//! Finds out whether the log of a store lost something in its middle.
+//! Finds out whether the log of a store lost something in its middle, and which salts an empty log has.
+//!
+//! `store_copy.rt` asks the first before a start opens the store, which refuses to start then. It keeps the salts of an
+//! empty log with the sum of the file: as long as the log has these and is empty, the file should have that sum.
 //!
 //! The log is a write-ahead log of SQLite (its "Database File Format", section 4). The header has the word with which
 //! it begins (at byte 0), the size of a page (8), two salts (16) and two sums (24). Each frame has the number of its
@@ -213,10 +216,11 @@ pub(crate) fn salts_of_empty(log: &[u8]) -> Option<[u8; 8]>
 
 /// Returns true if a log lost something in its middle: a frame in it does not go on from the one before, though a save
 /// follows that was begun after that of the frame. A save is begun once the one before is on the disk, so no crash
-/// leaves such a log. What reads it would go on from before that frame.
+/// leaves such a log, and the first save after a start puts zeros in the place of what a crash left. SQLite would take
+/// the log as ended before that frame, and drop that save and all later ones without a word.
 ///
-/// Of a log whose header is damaged nothing is known, nor of its last saves: of two, or of three if what is bad is the
-/// sum that a frame has.
+/// Damage in the header of a log is not found. Nor is it in the last two saves, or in the sum of the last frame of the
+/// one before them.
 pub fn is_damaged(log: &[u8]) -> bool
     ensures { result ≡ spec.is_damaged log.now }
 {

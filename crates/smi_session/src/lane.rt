@@ -151,8 +151,8 @@ impl Lane {
         }
     }
 
-    /// Returns true if several orders may be pending on this lane, because the station lets none of them wait for
-    /// another station.
+    /// Returns true if any orders that this lane takes may be pending together, because the station lets none of them
+    /// wait for another station. On `Orders` only commands on one domain may be (`is_further`).
     pub(crate) fn is_shared(self) -> bool
         ensures { result ≡ spec.is_shared self }
     {

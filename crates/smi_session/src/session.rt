@@ -355,14 +355,14 @@ impl Session {
         self.actions = Some(subscription);
     }
 
-    /// Returns what the node reports when it ends: one state for each device.
+    /// Returns what the node reports when the session ends: one state for each device.
     pub fn wills(&self) -> &[DeviceWill]
         ensures { result.now ≡ self.now.wills }
     {
         self.wills.as_slice()
     }
 
-    /// Sets what the node reports of a device when it ends, in place of what was set of this device before.
+    /// Sets what the node reports of a device when the session ends, in place of what was set of this device before.
     ///
     /// Fails if memory is refused.
     pub(crate) fn set_will(&mut self, will: DeviceWill) -> Result<(), AllocError>
