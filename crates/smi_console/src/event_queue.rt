@@ -93,7 +93,7 @@ impl<H: Wait + Drop> EventQueue<H> {
     /// Sends the messages that wait, as far as the channel has room.
     fn send_waiting(&mut self) {
         let parts = &mut *self.parts;
-        // At most so many messages wait, so the loop sends all of them if there is room.
+        // The queue has no more messages than this, so the loop sends all of them if there is room.
         for _ in 0..MOST_WAITING {
             let Some(news) = parts.waiting.front().copied() else {
                 return;

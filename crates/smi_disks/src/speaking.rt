@@ -1,7 +1,7 @@
 //! The text of what a tree file says, and its digest.
 //!
 //! The digest goes into the label of a store. Two files that differ only in blanks, comments, or the addresses of their
-//! stations say the same, so a crew can lay a file out anew, or move a station, without a new store.
+//! stations say the same. So a crew can change the layout of a file, or move a station, and keep its stores.
 
 ghost use Rattle.std.specs.Prelude.{◌≡◌, ◌++◌, ◌∷◌, [], IfOk, OnOk, take};
 ghost use Rattle.sha2.specs.Sha256.{sha256};
